@@ -1,0 +1,21 @@
+-- The decoding of binary32 beside the toolchain's own definition of IEEE 754.
+use Prim.Native.Nat.{_*_, _^_}
+use lib.IntN.{pos, _+ℤ_, natAbs}
+use lib.Signed.{nonNeg}
+use mathlib.Core.Bool.{not}
+use lib.Ieee.{Float, nan, inf, fin}
+use lib.Ieee.Exact.{HasValue}
+use Rattle.std.specs.declared.option.Option.{Option}
+use Rattle.std.specs.declared.option.Option.the-variants.{Some, None}
+use Rattle.formats.specs.Coding.{Decoded}
+
+-- an infinity, or not a number
+abbrev pub NotFinite : Float → Type 0
+NotFinite nan = Unit {0}
+NotFinite (inf s) = Unit {0}
+NotFinite (fin s m e) = ⊥
+
+-- what is decoded, and the float: neither is finite, or both are the same number with the same sign, counted in units of 2^-149
+abbrev pub Same : Option Decoded → Float → Type 0
+Same None x = NotFinite x
+Same (Some d) x = HasValue x (not (nonNeg (d .0))) (d .1 * 2 ^ natAbs (d .2 +ℤ pos 149)) (2 ^ 149)

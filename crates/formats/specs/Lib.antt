@@ -1,0 +1,4 @@
+pub mod Coding
+pub mod Interchange
+pub mod Fixed
+pub mod Agreement
