@@ -1,0 +1,3 @@
+pub mod Surveying
+pub mod Values
+pub mod Rows

@@ -1,0 +1,2 @@
+pub mod Tile
+pub mod Cutting

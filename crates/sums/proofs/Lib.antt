@@ -1,0 +1,3 @@
+pub mod Integers
+pub mod Slack
+pub mod Counting
