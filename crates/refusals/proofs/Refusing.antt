@@ -44,7 +44,21 @@ pub when-err : {X : Type 0} (o : Option Refusal) (x : X) (r : Refusal) → Err r
 when-err None x r e = let z : _≡_ {A = ℕ} 0 1 = cc in absurd (omega arith)
 when-err (Some s) x r e = cc
 
+pub was-made : {X : Type 0} (o : Option Refusal) (P : X → Type 0) (x : X) → Made o P (Ok x) → (o ≡ None) × P x
+was-made None P x m = (refl, m)
+was-made (Some r) P x m = absurd m
+
+pub was-refused : {X : Type 0} (o : Option Refusal) (P : X → Type 0) (r : Refusal) → Made o P (Err r) → o ≡ Some r
+was-refused None P r m = absurd m
+was-refused (Some s) P r m = ap Some (sym m)
+
 -- ---- one check after another
+pub first-refuses : {o : Option Refusal} {r : Refusal} (later : Option Refusal) → o ≡ Some r → first o later ≡ Some r
+first-refuses later e = ap (λ o. first o later) e
+
+pub first-passes : {o : Option Refusal} (later : Option Refusal) → o ≡ None → first o later ≡ later
+first-passes later e = ap (λ o. first o later) e
+
 -- a check that is passed, and those behind it
 pub passed : (met : Bool) (r : Refusal) (later : Option Refusal) → first (refuse met r) later ≡ None → (met ≡ false) × (later ≡ None)
 passed true r later e = absurd (none-some e refl)

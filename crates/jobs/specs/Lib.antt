@@ -1,0 +1,5 @@
+pub mod Words
+pub mod Codes
+pub mod Trailer
+pub mod Plan
+pub mod Job
