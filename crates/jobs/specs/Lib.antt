@@ -3,3 +3,4 @@ pub mod Codes
 pub mod Trailer
 pub mod Plan
 pub mod Job
+pub mod Survey
