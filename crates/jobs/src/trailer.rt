@@ -29,7 +29,7 @@ const LONGEST_FILE: usize = 65_536;
 
 impl Trailer {
     // The trailer of a file that is neither too short nor too long.
-    pub fn read(file: &[u8]) -> Result<Trailer, Refusal>
+    pub(crate) fn read(file: &[u8]) -> Result<Trailer, Refusal>
         ensures { λ r. ⌜ Made (file-check (length (now (file .entry)))) (λ t. t ≡ trailer-of (now (file .entry))) r ⌝ }
     {
         if file.len() < TRAILER_BYTES || file.len() > LONGEST_FILE {

@@ -68,7 +68,7 @@ pub impl Word for u32 as WholeWord {
 }
 
 // The word at a place.
-pub fn word_at<W: Word>(bytes: &[u8], place: usize) -> W
+pub(crate) fn word_at<W: Word>(bytes: &[u8], place: usize) -> W
     requires { ⌜ place + W·Word .width ≤ length (now bytes) ⌝ }
     ensures { λ r. ⌜ r ≡ W·Word .spelled (take (W·Word .width) (drop place (now (bytes .entry)))) ⌝ }
 {
@@ -76,7 +76,7 @@ pub fn word_at<W: Word>(bytes: &[u8], place: usize) -> W
 }
 
 // The words that lie one after another in the bytes.
-pub fn words_of<W: Word>(heap: Global, bytes: &[u8], count: usize) -> Result<Vec<W>, AllocError>
+pub(crate) fn words_of<W: Word>(heap: Global, bytes: &[u8], count: usize) -> Result<Vec<W>, AllocError>
     requires { ⌜ length (now bytes) ≡ count * W·Word .width ⌝ }
     ensures { λ r. ⌜ made r (λ v. vec-items v ≡ words-in (W·Word .width) (W·Word .spelled) count (now (bytes .entry))) ⌝ }
 {
