@@ -11,9 +11,14 @@ use Rattle.refusals.specs.declared.Refusal.{Refusal}
 use Rattle.refusals.specs.declared.Refusal.the-variants.{NotFinite, AboveShared}
 use Rattle.refusals.specs.Refusing.{refuse, first}
 use Rattle.formats.specs.Coding.{Decoded}
-use Rattle.sums.specs.Terms.{value, cut, lost}
+use Rattle.sums.specs.Terms.{value, step-of, cut, lost}
 use Rattle.alignment.specs.Tile.{Tile, length-check}
+use Rattle.alignment.specs.declared.checked.Step.{Step}
 use Rattle.alignment.specs.declared.cutting.Aligned.{Aligned}
+
+-- the step in grains
+abbrev pub step-size : Step → ℕ
+step-size s = step-of (s .shared .exponent) (s .extra .bits)
 
 -- the word of a row is finite, and its exponent is not above the shared one
 abbrev pub word-check : ℤ → ℕ → Option Decoded → Option Refusal

@@ -1,6 +1,6 @@
 -- A tile of words, as they decode: what refuses its survey, and its largest exponent.
 use mathlib.Core.Path.{_≡_}
-use mathlib.Core.List.{List, [], _∷_}
+use mathlib.Core.List.{List, [], _∷_, map}
 use mathlib.Core.Logic.{_⊎_}
 use Prim.Native.Nat.{ℕ, _+_}
 use lib.Dec.{ltb}
@@ -15,11 +15,15 @@ use Rattle.std.specs.declared.option.Option.the-variants.{Some, None}
 use Rattle.refusals.specs.declared.Refusal.{Refusal}
 use Rattle.refusals.specs.declared.Refusal.the-variants.{ExtraBits, TooManyWords, NotFinite}
 use Rattle.refusals.specs.Refusing.{refuse, first}
-use Rattle.formats.specs.Coding.{Decoded}
+use Rattle.formats.specs.Coding.{Decoded, Coding}
 
--- the words of a tile, decoded: nothing where a word is not finite
+-- a tile, its words decoded: nothing where a word is not finite
 abbrev pub Tile : Type 0
 Tile = List (Option Decoded)
+
+-- the tile of a format's words
+abbrev pub tile-of : {W : Type 0} → Coding W → List W → Tile
+tile-of f ws = map (f .decode) ws
 
 -- there are at most 12 extra bits
 abbrev pub extra-check : ℕ → Option Refusal

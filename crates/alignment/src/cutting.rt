@@ -7,8 +7,8 @@ ghost use lib.ListN.{length, drop};
 ghost use lib.Signed.{_≤ℤ_};
 ghost use Rattle.std.specs.declared.option.Option.the-variants.{Some, None};
 ghost use Rattle.refusals.specs.Refusing.{answer, verdict, unless};
-ghost use Rattle.sums.specs.Terms.{step-of};
-ghost use Rattle.alignment.specs.Cutting.{word-check, cut-check, aligned, Small};
+ghost use Rattle.alignment.specs.Tile.{tile-of};
+ghost use Rattle.alignment.specs.Cutting.{step-size, word-check, cut-check, aligned, Small};
 use crate::TILE_WORDS;
 use crate::checked::Step;
 use formats::Format;
@@ -28,9 +28,9 @@ pub fn cut_tile<F: Format>(
     step: Step,
     buffer: &mut [Aligned; 128],
 ) -> Result<(), Refusal>
-    ensures answers { λ r. ⌜ r ≡ verdict (cut-check (step .shared .exponent) (map (F·Format .meaning (now (format .entry)) .decode) (now (words .entry)))) ⌝ }
-    ensures writes { λ _. ⌜ now (buffer .exit) ≡ unless (cut-check (step .shared .exponent) (map (F·Format .meaning (now (format .entry)) .decode) (now (words .entry)))) (now (buffer .entry)) (map (aligned (step-of (step .shared .exponent) (step .extra .bits))) (map (F·Format .meaning (now (format .entry)) .decode) (now (words .entry))) ++ drop (length (now (words .entry))) (now (buffer .entry))) ⌝ }
-    ensures small { λ _. ⌜ (cut-check (step .shared .exponent) (map (F·Format .meaning (now (format .entry)) .decode) (now (words .entry))) ≡ None → Small (length (now (words .entry))) (now (buffer .exit))) ⌝ }
+    ensures answers { λ r. ⌜ r ≡ verdict (cut-check (step .shared .exponent) (tile-of (F·Format .meaning (now (format .entry))) (now (words .entry)))) ⌝ }
+    ensures writes { λ _. ⌜ now (buffer .exit) ≡ unless (cut-check (step .shared .exponent) (tile-of (F·Format .meaning (now (format .entry))) (now (words .entry)))) (now (buffer .entry)) (map (aligned (step-size step)) (tile-of (F·Format .meaning (now (format .entry))) (now (words .entry))) ++ drop (length (now (words .entry))) (now (buffer .entry))) ⌝ }
+    ensures small { λ _. ⌜ (cut-check (step .shared .exponent) (tile-of (F·Format .meaning (now (format .entry))) (now (words .entry))) ≡ None → Small (length (now (words .entry))) (now (buffer .exit))) ⌝ }
 {
     if words.len() > TILE_WORDS {
         return Err(Refusal::TooManyWords);
@@ -46,8 +46,8 @@ pub fn cut_tile<F: Format>(
 
 // The word of a row, which has to be finite and no larger than the shared exponent allows.
 fn cut_row<F: Format>(format: &F, word: F::Word, row: usize, step: Step) -> Result<Aligned, Refusal>
-    ensures answers { λ r. ⌜ r ≡ answer (word-check (step .shared .exponent) row (F·Format .meaning (now (format .entry)) .decode word)) (aligned (step-of (step .shared .exponent) (step .extra .bits)) (F·Format .meaning (now (format .entry)) .decode word)) ⌝ }
-    ensures small { λ _. ⌜ (word-check (step .shared .exponent) row (F·Format .meaning (now (format .entry)) .decode word) ≡ None → natAbs (aligned (step-of (step .shared .exponent) (step .extra .bits)) (F·Format .meaning (now (format .entry)) .decode word) .number) < 2 ^ 36) ⌝ }
+    ensures answers { λ r. ⌜ r ≡ answer (word-check (step .shared .exponent) row (F·Format .meaning (now (format .entry)) .decode word)) (aligned (step-size step) (F·Format .meaning (now (format .entry)) .decode word)) ⌝ }
+    ensures small { λ _. ⌜ (word-check (step .shared .exponent) row (F·Format .meaning (now (format .entry)) .decode word) ≡ None → natAbs (aligned (step-size step) (F·Format .meaning (now (format .entry)) .decode word) .number) < 2 ^ 36) ⌝ }
 {
     let Some(decoded) = format.decode(word) else {
         return Err(Refusal::NotFinite { row });
@@ -64,7 +64,7 @@ fn cut_value(decoded: (i8, u32, i32), step: Step) -> Aligned
     requires significand { ⌜ decoded .1 < 2 ^ 24 ⌝ }
     requires low { ⌜ negℤ (pos 400) ≤ℤ decoded .2 ⌝ }
     requires under { ⌜ decoded .2 ≤ℤ step .shared .exponent ⌝ }
-    ensures value { λ r. ⌜ r ≡ aligned (step-of (step .shared .exponent) (step .extra .bits)) (Some decoded) ⌝ }
+    ensures value { λ r. ⌜ r ≡ aligned (step-size step) (Some decoded) ⌝ }
     ensures small { λ r. ⌜ natAbs (r .number) < 2 ^ 36 ⌝ }
 {
     let (sign, significand, exponent) = decoded;

@@ -1,8 +1,7 @@
 // The largest exponent of a tile.
 ghost use mathlib.Core.Path.{_≡_};
-ghost use mathlib.Core.List.{map};
 ghost use Rattle.refusals.specs.Refusing.{answer, Made};
-ghost use Rattle.alignment.specs.Tile.{survey-check, largest, Largest};
+ghost use Rattle.alignment.specs.Tile.{tile-of, survey-check, largest, Largest};
 use crate::TILE_WORDS;
 use crate::checked::SharedExponent;
 use formats::Format;
@@ -11,8 +10,8 @@ use refusals::Refusal;
 impl SharedExponent {
     // Raised to the larger of itself and every exponent in the tile.
     pub fn survey<F: Format>(self, format: &F, words: &[F::Word]) -> Result<SharedExponent, Refusal>
-        ensures made { λ r. ⌜ Made (survey-check (map (F·Format .meaning (now (format .entry)) .decode) (now (words .entry)))) (λ s. s .exponent ≡ largest (self .exponent) (map (F·Format .meaning (now (format .entry)) .decode) (now (words .entry)))) r ⌝ }
-        ensures largest { λ _. ⌜ Largest (self .exponent) (map (F·Format .meaning (now (format .entry)) .decode) (now (words .entry))) (largest (self .exponent) (map (F·Format .meaning (now (format .entry)) .decode) (now (words .entry)))) ⌝ }
+        ensures made { λ r. ⌜ Made (survey-check (tile-of (F·Format .meaning (now (format .entry))) (now (words .entry)))) (λ s. s .exponent ≡ largest (self .exponent) (tile-of (F·Format .meaning (now (format .entry))) (now (words .entry)))) r ⌝ }
+        ensures largest { λ _. ⌜ Largest (self .exponent) (tile-of (F·Format .meaning (now (format .entry))) (now (words .entry))) (largest (self .exponent) (tile-of (F·Format .meaning (now (format .entry))) (now (words .entry)))) ⌝ }
     {
         let exponent = survey_tile(format, self.exponent, words)?;
         Ok(SharedExponent { exponent })
@@ -21,7 +20,7 @@ impl SharedExponent {
 
 // The larger of `shared` and every exponent in the tile, up to the first word that is not finite.
 fn survey_tile<F: Format>(format: &F, shared: i32, words: &[F::Word]) -> Result<i32, Refusal>
-    ensures { λ r. ⌜ r ≡ answer (survey-check (map (F·Format .meaning (now (format .entry)) .decode) (now (words .entry)))) (largest shared (map (F·Format .meaning (now (format .entry)) .decode) (now (words .entry)))) ⌝ }
+    ensures { λ r. ⌜ r ≡ answer (survey-check (tile-of (F·Format .meaning (now (format .entry))) (now (words .entry)))) (largest shared (tile-of (F·Format .meaning (now (format .entry))) (now (words .entry)))) ⌝ }
 {
     if words.len() > TILE_WORDS {
         return Err(Refusal::TooManyWords);

@@ -15,7 +15,7 @@ use Rattle.jobs.specs.declared.job.Job.{Job}
 use Rattle.jobs.specs.declared.plan.Plan.{Plan}
 use Rattle.jobs.specs.Job.{job-check, Job-of}
 use Rattle.jobs.specs.Plan.{with-some, plan-of, activation-bytes}
-use Rattle.jobs.specs.Survey.{coding-of, tiles-check, decoded, decoded-file, header-check, header-of, Header-of}
+use Rattle.jobs.specs.Survey.{coding-of, tiles-check, activations-tile, file-tile, header-check, header-of, Header-of}
 use Rattle.jobs.specs.Trailer.{trailer-of}
 
 -- a file that holds no job has no header
@@ -30,26 +30,26 @@ module _ (file : List ℕ) (job : Job) (read : Made (job-check file) (Job-of fil
   section-long = holds .activations .long
 
   -- the words of the section are those in the file
-  same : decoded (job .plan) (now (job .activations .bytes)) ≡ decoded-file file (job .plan)
-  same = ap (decoded (job .plan)) (holds .activations .holds)
+  same : activations-tile (job .plan) (now (job .activations .bytes)) ≡ file-tile file (job .plan)
+  same = ap (activations-tile (job .plan)) (holds .activations .holds)
 
-  behind-job : header-check file ≡ tiles-check 0 (decoded (job .plan) (now (job .activations .bytes)))
+  behind-job : header-check file ≡ tiles-check 0 (activations-tile (job .plan) (now (job .activations .bytes)))
   behind-job =
       first-passes _ (was-made (job-check file) (Job-of file) job read .0)
-      ∙ ap (λ o. with-some o (λ p. tiles-check 0 (decoded-file file p))) (holds .plan)
+      ∙ ap (λ o. with-some o (λ p. tiles-check 0 (file-tile file p))) (holds .plan)
       ∙ ap (tiles-check 0) (sym same)
 
-  pub not-all-finite : (e : Refusal) (m : ℤ) → Err e ≡ answer (tiles-check 0 (decoded (job .plan) (now (job .activations .bytes)))) m → Made (header-check file) (Header-of file) (Err e)
-  not-all-finite e m why = unmade (header-check file) _ e (behind-job ∙ when-err (tiles-check 0 (decoded (job .plan) (now (job .activations .bytes)))) m e why)
+  pub not-all-finite : (e : Refusal) (m : ℤ) → Err e ≡ answer (tiles-check 0 (activations-tile (job .plan) (now (job .activations .bytes)))) m → Made (header-check file) (Header-of file) (Err e)
+  not-all-finite e m why = unmade (header-check file) _ e (behind-job ∙ when-err (tiles-check 0 (activations-tile (job .plan) (now (job .activations .bytes)))) m e why)
 
-  pub headed : (shared : ℤ) → Ok shared ≡ answer (tiles-check 0 (decoded (job .plan) (now (job .activations .bytes)))) (largest (coding-of (job .plan .format) .least) (decoded (job .plan) (now (job .activations .bytes))))
+  pub headed : (shared : ℤ) → Ok shared ≡ answer (tiles-check 0 (activations-tile (job .plan) (now (job .activations .bytes)))) (largest (coding-of (job .plan .format) .least) (activations-tile (job .plan) (now (job .activations .bytes))))
       → Made (header-check file) (Header-of file) (Ok (record { rows = job .plan .rows; shared = shared; extra = job .plan .extra }))
   headed shared found =
-      let ok = when-ok (tiles-check 0 (decoded (job .plan) (now (job .activations .bytes)))) (largest (coding-of (job .plan .format) .least) (decoded (job .plan) (now (job .activations .bytes)))) shared found in
+      let ok = when-ok (tiles-check 0 (activations-tile (job .plan) (now (job .activations .bytes)))) (largest (coding-of (job .plan .format) .least) (activations-tile (job .plan) (now (job .activations .bytes)))) shared found in
       let top = ok .1 ∙ ap (largest (coding-of (job .plan .format) .least)) same in
       made (header-check file) (Header-of file) _ (behind-job ∙ ok .0) (λ p is. one-plan p is top)
     where
-      one-plan : (p : Plan) → plan-of (trailer-of file) ≡ Some p → shared ≡ largest (coding-of (job .plan .format) .least) (decoded-file file (job .plan))
+      one-plan : (p : Plan) → plan-of (trailer-of file) ≡ Some p → shared ≡ largest (coding-of (job .plan .format) .least) (file-tile file (job .plan))
           → record { rows = job .plan .rows; shared = shared; extra = job .plan .extra } ≡ header-of file p
       one-plan p is top =
           let plan : Some (job .plan) ≡ Some p = sym (holds .plan) ∙ is in

@@ -1,6 +1,6 @@
 -- The survey of a job: all its words, decoded, and the header that comes of them.
 use mathlib.Core.Path.{_≡_}
-use mathlib.Core.List.{List, [], _∷_, map}
+use mathlib.Core.List.{List, [], _∷_}
 use Prim.Native.Nat.{ℕ, _+_, _%_}
 use lib.IntN.{pos}
 use lib.ListN.{take, drop}
@@ -12,7 +12,7 @@ use Rattle.refusals.specs.Refusing.{first}
 use Rattle.formats.specs.Coding.{Coding}
 use Rattle.formats.specs.Fixed.{fixed}
 use Rattle.formats.specs.Interchange.{coding}
-use Rattle.alignment.specs.Tile.{Tile, largest}
+use Rattle.alignment.specs.Tile.{Tile, tile-of, largest}
 use Rattle.listing.specs.declared.Header.{Header}
 use Rattle.jobs.specs.declared.codes.FormatCode.{FormatCode}
 use Rattle.jobs.specs.declared.codes.FormatCode.the-variants.{Binary16, Bfloat16, Binary32, Fixed8}
@@ -36,21 +36,21 @@ tiles-check row [] = None
 tiles-check row (None ∷ ts) = Some (NotFinite (row % 128))
 tiles-check row (Some d ∷ ts) = tiles-check (row + 1) ts
 
--- the words of the activations, one for each row, decoded
-abbrev pub decoded : Plan → List ℕ → Tile
-decoded p bytes = map (coding-of (p .format) .decode) (words-in (word-bytes (p .format)) little (p .rows) bytes)
+-- the words of the activations, one for each row
+abbrev pub activations-tile : Plan → List ℕ → Tile
+activations-tile p bytes = tile-of (coding-of (p .format)) (words-in (word-bytes (p .format)) little (p .rows) bytes)
 
 -- the same, out of the file
-abbrev pub decoded-file : List ℕ → Plan → Tile
-decoded-file file p = decoded p (take (activation-bytes p) (drop (trailer-of file .activations) file))
+abbrev pub file-tile : List ℕ → Plan → Tile
+file-tile file p = activations-tile p (take (activation-bytes p) (drop (trailer-of file .activations) file))
 
 -- the checks of a job, and then of its words
 abbrev pub header-check : List ℕ → Option Refusal
-header-check file = first (job-check file) (with-some (plan-of (trailer-of file)) (λ p. tiles-check 0 (decoded-file file p)))
+header-check file = first (job-check file) (with-some (plan-of (trailer-of file)) (λ p. tiles-check 0 (file-tile file p)))
 
 -- rows and extra bits of the plan, and the larger of the format's least exponent and every exponent in the job
 abbrev pub header-of : List ℕ → Plan → Header
-header-of file p = record { rows = p .rows; shared = largest (coding-of (p .format) .least) (decoded-file file p); extra = p .extra }
+header-of file p = record { rows = p .rows; shared = largest (coding-of (p .format) .least) (file-tile file p); extra = p .extra }
 
 -- the header of the plan that the file's trailer asks for
 abbrev pub Header-of : List ℕ → Header → Type 0

@@ -76,7 +76,11 @@ pub(crate) fn word_at<W: Word>(bytes: &[u8], place: usize) -> W
 }
 
 // The words that lie one after another in the bytes.
-pub(crate) fn words_of<W: Word>(heap: Global, bytes: &[u8], count: usize) -> Result<Vec<W>, AllocError>
+pub(crate) fn words_of<W: Word>(
+    heap: Global,
+    bytes: &[u8],
+    count: usize,
+) -> Result<Vec<W>, AllocError>
     requires { ⌜ length (now bytes) ≡ count * W·Word .width ⌝ }
     ensures { λ r. ⌜ made r (λ v. vec-items v ≡ words-in (W·Word .width) (W·Word .spelled) count (now (bytes .entry))) ⌝ }
 {

@@ -8,11 +8,11 @@ use lib.Dec.{eqb}
 use lib.IntN.{ℤ, pos, _+ℤ_, _-ℤ_, _*ℤ_, natAbs}
 use lib.Signed.{quotZ}
 
--- 2^k, in grains
+-- 2^k in grains, from k = -412 on
 abbrev pub grains : ℤ → ℕ
 grains k = 2 ^ natAbs (k +ℤ pos 412)
 
--- sign × significand × 2^exponent, in grains
+-- sign × significand × 2^exponent in grains
 abbrev pub value : ℤ × ℕ × ℤ → ℤ
 value d = d .0 *ℤ pos (d .1 * grains (d .2))
 
