@@ -1,8 +1,9 @@
 // The three formats of IEEE 754's layout. They differ in their widths alone.
 ghost use mathlib.Core.Path.{_≡_};
+ghost use Prim.Native.Nat.{_*_, _^_};
 ghost use lib.Ieee.{binary32, ofBits};
 ghost use Rattle.formats.specs.Interchange.{coding, interchange};
-ghost use Rattle.formats.specs.Agreement.{Same};
+ghost use Rattle.formats.specs.Agreement.{Same, Widened};
 use crate::Format;
 use crate::layout::Layout;
 
@@ -63,7 +64,11 @@ pub impl Format for Bfloat16 as Bfloat16Format {
         UPPER_HALF.greatest()
     }
 
-    fn decode(&self, word: u16) -> Option<(i8, u32, i32)> {
+    // As binary32 reads the word with 16 zero bits behind it.
+    fn decode(&self, word: u16) -> Option<(i8, u32, i32)>
+        ensures value { λ r. ⌜ r ≡ interchange 8 7 word ⌝ }
+        ensures widened { λ r. ⌜ Widened r (interchange 8 23 (word * 2 ^ 16)) ⌝ }
+    {
         UPPER_HALF.decode(u32::from(word))
     }
 }
