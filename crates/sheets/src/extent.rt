@@ -17,7 +17,7 @@ const MOST_COLUMNS: usize = 16;
 // Whatever the fields hold, the counts are within their bounds, so that no invariant is needed:
 // a type that has one cannot stand beside a reference in an enum, as a sheet does in a `Result`.
 #[derive(Clone, Copy)]
-pub struct Extent {
+pub(crate) struct Extent {
     rows: u16,
     columns: u8,
 }
