@@ -8,16 +8,16 @@ use lib.IntN.{ℤ, pos, negsuc}
 use lib.Ieee.{down}
 use Rattle.formats.specs.Coding.{Decoded}
 use Rattle.formats.specs.Interchange.{fraction, field, sign}
-use Rattle.rounding.specs.Word.{negative}
-use Rattle.rounding.specs.Nearest.{exactly, apart, off, too-large, Nearest}
+use Rattle.rounding.specs.Word.{below-zero}
+use Rattle.rounding.specs.Nearest.{exactly, distance, off, too-large, Nearest}
 use Rattle.rounding.proofs.Fields.{Finite, significand-of, amount-of, Numbered, number-of, numbered-word, decodes, decoded}
 
 -- how far the finite word w is from total times 2 to the power step
 abbrev pub off-of : ℤ → ℤ → ℕ → ℕ
-off-of total step w = apart (amount-of w * down step) (exactly total step)
+off-of total step w = distance (amount-of w * down step) (exactly total step)
 
 pub record By-fields (total step : ℤ) (r : ℕ) : Type 0 where
-  pub signed : sign 8 23 r ≡ cond (negative total) (negsuc 0) (pos 1)
+  pub signed : sign 8 23 r ≡ cond (below-zero total) (negsuc 0) (pos 1)
   pub infinite : too-large * down step ≤ exactly total step → r % 2 ^ 31 ≡ 0x7F80_0000
   pub finite : exactly total step < too-large * down step → Finite r
   pub least : Finite r → (w : ℕ) → Finite w → off-of total step r ≤ off-of total step w
@@ -25,7 +25,7 @@ pub record By-fields (total step : ℤ) (r : ℕ) : Type 0 where
 
 module _ (total step : ℤ) (r : ℕ) where
   same-off : (w : ℕ) (d : Decoded) → Numbered (sign 8 23 w) (field 8 23 w) (fraction 23 w) d → off total step d ≡ off-of total step w
-  same-off w d h = ap (λ (x : ℕ). apart (x * down step) (exactly total step)) (h .same-amount)
+  same-off w d h = ap (λ (x : ℕ). distance (x * down step) (exactly total step)) (h .same-amount)
 
   pub to-numbers : By-fields total step r → Nearest total step r
   to-numbers h = record {

@@ -10,7 +10,7 @@ use lib.Ieee.{nearest}
 use lib.Ieee.Fits.{eq→eqb}
 use lib.Ieee.Nearest.{closest}
 use Rattle.std.proofs.shelf.Tests.{cases-lt, cases-order}
-use Rattle.rounding.specs.Nearest.{apart}
+use Rattle.rounding.specs.Nearest.{distance}
 
 -- Of the whole part a, with the rest b, and the number after a the one that is taken is q.
 data Side (q a b u : ℕ) : Type 0 where
@@ -48,7 +48,7 @@ module _ (n u c : ℕ) (some : 0 < u) where
   taken : (q : ℕ) → q ≡ suc (n / u) → q * u ≡ n / u * u + u
   taken q e = ap (λ (x : ℕ). x * u) e ∙ suc-mul (n / u) u
 
-  pub closest-least : apart (closest n u * u) n ≤ apart (c * u) n
+  pub closest-least : distance (closest n u * u) n ≤ distance (c * u) n
   closest-least =
       let split : n / u * u + n % u ≡ n = div-add-mod' n u in
       let rest : n % u < u = mod-lt n some in
@@ -57,7 +57,7 @@ module _ (n u c : ℕ) (some : 0 < u) where
         | upper e h _ ↦ let q = taken (closest n u) e in elim lies [ at p ↦ omega arith | under p ↦ omega arith | over p ↦ omega arith ]
       ]
 
-  pub closest-even : apart (c * u) n ≡ apart (closest n u * u) n → (c * u ≡ closest n u * u) ⊎ (closest n u % 2 ≡ 0)
+  pub closest-even : distance (c * u) n ≡ distance (closest n u * u) n → (c * u ≡ closest n u * u) ⊎ (closest n u % 2 ≡ 0)
   closest-even same =
       let split : n / u * u + n % u ≡ n = div-add-mod' n u in
       let rest : n % u < u = mod-lt n some in

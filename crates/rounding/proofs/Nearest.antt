@@ -15,13 +15,12 @@ use lib.Ieee.Nearest.{closest-mono}
 use lib.Ieee.Order.{drop, kept}
 use borrow.Author.Differences.{ints}
 use Rattle.std.proofs.shelf.Tests.{cases-lt}
-use Rattle.formats.specs.Coding.{Decoded, Shaped}
 use Rattle.formats.specs.Interchange.{field, sign}
-use Rattle.rounding.specs.Word.{negative, nearest-word}
-use Rattle.rounding.specs.Nearest.{layout, amount, apart, exactly, too-large, Nearest, Worth, Given-back}
+use Rattle.rounding.specs.Word.{below-zero, nearest-word}
+use Rattle.rounding.specs.Nearest.{amount, distance, exactly, too-large, Nearest, Given-back}
 use Rattle.rounding.proofs.Digits.{size-gt}
 use Rattle.rounding.proofs.Bits.{sign-bit, kept-leading, kept-significand, round-word}
-use Rattle.rounding.proofs.ByFields.{off-of, By-fields, to-numbers}
+use Rattle.rounding.proofs.ByFields.{off-of, to-numbers}
 use Rattle.rounding.proofs.Closest.{closest-least, closest-even}
 use Rattle.rounding.proofs.Fields.{Finite, significand-of, amount-of, Reads, reads, sign-of, significand-lt, infinite-field, amount-lt, number-of, numbered-word, decodes}
 use Rattle.rounding.proofs.Worth.{worth-amount, amount-is-worth}
@@ -65,7 +64,7 @@ module _ (n den : ℕ) (some : 0 < den) where
         | inr least ↦
             let at : k ≡ 253 = omega arith in
             let unit : u ≡ den * 2 ^ 253 = ap (λ (x : ℕ). den * 2 ^ x) at in
-            let near : apart (q * u) n ≤ apart ((2 ^ 24 - 1) * u) n = closest-least n u (2 ^ 24 - 1) some-u in
+            let near : distance (q * u) n ≤ distance ((2 ^ 24 - 1) * u) n = closest-least n u (2 ^ 24 - 1) some-u in
             let not-full : q ≡ 2 ^ 24 → ⊥ = λ e. let whole : q * u ≡ 2 ^ 24 * u = ap (λ (x : ℕ). x * u) e in omega arith in
             omega arith
       ]
@@ -92,13 +91,13 @@ module _ (n den : ℕ) (some : 0 < den) where
             on (m * 2 ^ (x - k)) (ap (λ (y : ℕ). m * 2 ^ y * den) split ∙ ap (λ (y : ℕ). m * y * den) (pow-add 2 (x - k) k) ∙ simp (mul-assoc, mul-comm, mul-left-comm))
       ]
 
-  least : (w : ℕ) → apart (q * u) n ≤ apart (amount-of w * den) n
+  least : (w : ℕ) → distance (q * u) n ≤ distance (amount-of w * den) n
   least w = elim (grid w) [
     | on c e ↦ let near = closest-least n u c some-u in omega arith
     | under l g ↦ let near = closest-least n u (2 ^ 23) some-u in omega arith
   ]
 
-  even : (w : ℕ) → apart (amount-of w * den) n ≡ apart (q * u) n → (amount-of w * den ≡ q * u) ⊎ (q % 2 ≡ 0)
+  even : (w : ℕ) → distance (amount-of w * den) n ≡ distance (q * u) n → (amount-of w * den ≡ q * u) ⊎ (q % 2 ≡ 0)
   even w same = elim (grid w) [
     | on c e ↦ elim (closest-even n u c some-u (omega arith)) [ inl p ↦ inl (omega arith) | inr p ↦ inr p ]
     | under l g ↦ let near = closest-least n u (2 ^ 23) some-u in inl (omega arith)
@@ -123,20 +122,20 @@ module _ (total step : ℤ) where
   word = drop 24 n (down step) * 2 ^ 23 + kept 24 n (down step)
 
   abbrev result : ℕ
-  result = sign-bit (negative total) + min word 0x7F80_0000
+  result = sign-bit (below-zero total) + min word 0x7F80_0000
 
   reads-result : word < 0x7F80_0000 → Reads result (kept 24 n (down step)) (drop 24 n (down step))
   reads-result l =
       let plain : word ≡ min word 0x7F80_0000 = omega arith in
-      subst (λ (x : ℕ). Reads (sign-bit (negative total) + x) (kept 24 n (down step)) (drop 24 n (down step))) plain
-      (reads (negative total) (kept 24 n (down step)) (drop 24 n (down step)) (kept-significand n (down step)) l)
+      subst (λ (x : ℕ). Reads (sign-bit (below-zero total) + x) (kept 24 n (down step)) (drop 24 n (down step))) plain
+      (reads (below-zero total) (kept 24 n (down step)) (drop 24 n (down step)) (kept-significand n (down step)) l)
 
   finite-word : Finite result → word < 0x7F80_0000
   finite-word f = elim (cases-lt word 0x7F80_0000) [
     | inl l ↦ l
     | inr g ↦
         let top : min word 0x7F80_0000 ≡ 0x7F80_0000 = omega arith in
-        absurd (infinite-field (negative total) (subst (λ (x : ℕ). Finite (sign-bit (negative total) + x)) top f))
+        absurd (infinite-field (below-zero total) (subst (λ (x : ℕ). Finite (sign-bit (below-zero total) + x)) top f))
   ]
 
   result-units : Finite result → amount-of result * down step ≡ kept 24 n (down step) * (down step * 2 ^ drop 24 n (down step))
@@ -146,10 +145,10 @@ module _ (total step : ℤ) where
       ∙ ap (λ (x : ℕ). kept 24 n (down step) * x) (mul-comm (2 ^ drop 24 n (down step)) (down step))
 
   result-least : Finite result → (w : ℕ) → off-of total step result ≤ off-of total step w
-  result-least f w = subst (λ (x : ℕ). apart x n ≤ off-of total step w) (sym (result-units f)) (least n (down step) (down-pos step) w)
+  result-least f w = subst (λ (x : ℕ). distance x n ≤ off-of total step w) (sym (result-units f)) (least n (down step) (down-pos step) w)
 
   result-even : Finite result → (w : ℕ) → off-of total step w ≡ off-of total step result → (amount-of w ≡ amount-of result) ⊎ (significand-of result % 2 ≡ 0)
-  result-even f w same = elim (even n (down step) (down-pos step) w (same ∙ ap (λ (x : ℕ). apart x n) (result-units f))) [
+  result-even f w same = elim (even n (down step) (down-pos step) w (same ∙ ap (λ (x : ℕ). distance x n) (result-units f))) [
     | inl p ↦ inl (eq-of-mul-eq-mul-right (down step) (down-pos step) (amount-of w) (amount-of result) (p ∙ sym (result-units f)))
     | inr p ↦ inr (reads-result (finite-word f) .parity ∙ p)
   ]
@@ -161,14 +160,14 @@ module _ (total step : ℤ) where
   result-infinite h =
       let l : 0x7F80_0000 ≤ word = large n (down step) (down-pos step) h in
       let top : min word 0x7F80_0000 ≡ 0x7F80_0000 = omega arith in
-      ap (λ (x : ℕ). (sign-bit (negative total) + x) % 2 ^ 31) top ∙ below (negative total)
+      ap (λ (x : ℕ). (sign-bit (below-zero total) + x) % 2 ^ 31) top ∙ below (below-zero total)
     where
       below : (s : Bool) → (sign-bit s + 0x7F80_0000) % 2 ^ 31 ≡ 0x7F80_0000
       below true = refl
       below false = refl
 
-  result-signed : sign 8 23 result ≡ cond (negative total) (negsuc 0) (pos 1)
-  result-signed = sign-of (negative total) (min word 0x7F80_0000) (omega arith)
+  result-signed : sign 8 23 result ≡ cond (below-zero total) (negsuc 0) (pos 1)
+  result-signed = sign-of (below-zero total) (min word 0x7F80_0000) (omega arith)
 
   result-given-back : Given-back total step result
   result-given-back d shaped worth =
@@ -184,7 +183,7 @@ module _ (total step : ℤ) where
       )
 
   is-result : result ≡ nearest-word total step
-  is-result = sym (round-word (negative total) (natAbs total * up step) (down step))
+  is-result = sym (round-word (below-zero total) (natAbs total * up step) (down step))
 
   pub word-nearest : Nearest total step (nearest-word total step)
   word-nearest =

@@ -98,13 +98,13 @@ unsigned-word-zero step =
     ap (toBits binary32) (round-same binary32 false (0 * up step) (down step) 0 1 (down-pos step) (zero-lt-suc 0) (mul-one (0 * up step) ∙ zero-mul (up step) ∙ sym (zero-mul (down step))))
     ∙ zero-word
 
-pub nearest-word-positive : (total step : ℤ) → pos 0 ≤ℤ total → nearest-word total step ≡ unsigned-word (natAbs total) step
-nearest-word-positive (pos n) step h = refl
-nearest-word-positive (negsuc n) step h = absurd (omega (arith, ints))
+pub nearest-word-from-zero : (total step : ℤ) → pos 0 ≤ℤ total → nearest-word total step ≡ unsigned-word (natAbs total) step
+nearest-word-from-zero (pos n) step h = refl
+nearest-word-from-zero (negsuc n) step h = absurd (omega (arith, ints))
 
-pub nearest-word-negative : (total step : ℤ) → total <ℤ pos 0 → nearest-word total step ≡ 2 ^ 31 + unsigned-word (natAbs total) step
-nearest-word-negative (pos n) step h = absurd (omega (arith, ints))
-nearest-word-negative (negsuc n) step h =
-    let positive = round-word false (suc n * up step) (down step) in
-    let negative = round-word true (suc n * up step) (down step) in
+pub nearest-word-below-zero : (total step : ℤ) → total <ℤ pos 0 → nearest-word total step ≡ 2 ^ 31 + unsigned-word (natAbs total) step
+nearest-word-below-zero (pos n) step h = absurd (omega (arith, ints))
+nearest-word-below-zero (negsuc n) step h =
+    let plain = round-word false (suc n * up step) (down step) in
+    let turned = round-word true (suc n * up step) (down step) in
     omega arith

@@ -12,7 +12,7 @@ use lib.Ieee.{down}
 use lib.Ieee.Fits.{down-pos}
 use Rattle.std.proofs.shelf.Tests.{cases-lt, cases-order}
 use Rattle.std.proofs.shelf.Ways.{tells}
-use Rattle.formats.specs.Interchange.{fraction, field, sign}
+use Rattle.formats.specs.Interchange.{fraction, field}
 use Rattle.rounding.specs.Nearest.{exactly, too-large, Nearest, Only}
 use Rattle.rounding.proofs.ByFields.{off-of, By-fields, from-numbers}
 use Rattle.rounding.proofs.Fields.{Finite, significand-of, amount-at, amount-of, amount-high}

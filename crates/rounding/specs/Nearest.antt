@@ -8,7 +8,7 @@ use lib.Ieee.{up, down}
 use Rattle.std.specs.declared.option.Option.the-variants.{Some}
 use Rattle.formats.specs.Coding.{Decoded, Coding, Shaped}
 use Rattle.formats.specs.Interchange.{sign, coding}
-use Rattle.rounding.specs.Word.{negative}
+use Rattle.rounding.specs.Word.{below-zero}
 
 -- binary32: an exponent field of 8 bits and a fraction of 23
 abbrev pub layout : Coding ℕ
@@ -27,12 +27,12 @@ abbrev pub exactly : ℤ → ℤ → ℕ
 exactly total step = natAbs total * up step * 2 ^ 149
 
 -- how far two numbers are from one another
-abbrev pub apart : ℕ → ℕ → ℕ
-apart a b = (a - b) + (b - a)
+abbrev pub distance : ℕ → ℕ → ℕ
+distance a b = (a - b) + (b - a)
 
 -- how far a word's number is from it in magnitude
 abbrev pub off : ℤ → ℤ → Decoded → ℕ
-off total step d = apart (amount d * down step) (exactly total step)
+off total step d = distance (amount d * down step) (exactly total step)
 
 -- 2 ^ 128 - 2 ^ 103 in units of 2 ^ -149
 abbrev pub too-large : ℕ
@@ -41,7 +41,7 @@ too-large = 2 ^ 277 - 2 ^ 252
 -- the word r is the one nearest to total times 2 to the power step
 pub record Nearest (total step : ℤ) (r : ℕ) : Type 0 where
   -- it has the sign of the total, also where it is 0
-  pub signed : sign 8 23 r ≡ cond (negative total) (negsuc 0) (pos 1)
+  pub signed : sign 8 23 r ≡ cond (below-zero total) (negsuc 0) (pos 1)
   -- from 2 ^ 128 - 2 ^ 103 on it is an infinity, and below that finite
   pub infinite : too-large * down step ≤ exactly total step → r % 2 ^ 31 ≡ 0x7F80_0000
   pub finite : exactly total step < too-large * down step → (d : Decoded) × Decodes r d

@@ -6,13 +6,13 @@ use lib.Ieee.{Float, binary32, up, down, size, nearest, round, toBits}
 use Rattle.std.specs.Numbers.{maxZ}
 
 -- whether a total lies below 0
-abbrev pub negative : ℤ → Bool
-negative (pos n) = false
-negative (negsuc n) = true
+abbrev pub below-zero : ℤ → Bool
+below-zero (pos n) = false
+below-zero (negsuc n) = true
 
 -- total times 2 to the power step, rounded once: 2 to the power step is the fraction up step / down step
 abbrev pub rounded : ℤ → ℤ → Float
-rounded total step = round binary32 (negative total) (natAbs total * up step) (down step)
+rounded total step = round binary32 (below-zero total) (natAbs total * up step) (down step)
 
 -- the word of that
 abbrev pub nearest-word : ℤ → ℤ → ℕ

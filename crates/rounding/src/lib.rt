@@ -1,7 +1,7 @@
 // A whole number times a power of two, rounded once to IEEE 754 binary32: nearest, a tie to the even significand, subnormals kept.
 ghost use mathlib.Core.Path.{_≡_};
-ghost use Prim.Native.Nat.{ℕ, _+_, _*_, _^_, _<_, _≤_};
-ghost use lib.IntN.{ℤ, pos, _+ℤ_};
+ghost use Prim.Native.Nat.{_+_, _*_, _^_, _<_, _≤_};
+ghost use lib.IntN.{pos, _+ℤ_};
 ghost use lib.Signed.{_≤ℤ_};
 ghost use lib.Ieee.{binary32, down, ofBits, size, up};
 ghost use mir.Syntax.{w32};

@@ -1,6 +1,6 @@
 // How many rows and columns a sheet has.
 ghost use mathlib.Core.Path.{_≡_};
-ghost use Prim.Native.Nat.{ℕ, _+_, _*_, _≤_};
+ghost use Prim.Native.Nat.{_+_, _*_, _≤_};
 ghost use Rattle.refusals.specs.Refusing.{Made, answer};
 ghost use Rattle.sheets.specs.Code.{byte-length};
 ghost use Rattle.sheets.specs.Extent.{column-count, row-count};

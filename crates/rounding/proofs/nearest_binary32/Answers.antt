@@ -9,9 +9,9 @@ use borrow.Author.Differences.{ints}
 use lib.Ieee.{binary32, up, down, ofBits}
 use lib.Ieee.Bits.{ofBits-toBits}
 use lib.Ieee.Fits.{round-fits}
-use Rattle.rounding.specs.Word.{negative, rounded, unsigned-word, nearest-word}
+use Rattle.rounding.specs.Word.{below-zero, rounded, unsigned-word, nearest-word}
 use Rattle.rounding.specs.Nearest.{Nearest, Given-back}
-use Rattle.rounding.proofs.Rounded.{nearest-word-positive, nearest-word-negative}
+use Rattle.rounding.proofs.Rounded.{nearest-word-from-zero, nearest-word-below-zero}
 use Rattle.rounding.proofs.Nearest.{word-nearest, word-given-back}
 use Rattle.rounding.proofs.Unique.{only}
 use Rattle.rounding.proofs.nearest_binary32.Needs as need
@@ -23,7 +23,7 @@ rest-is total step m r f g a b = b ∙ ap₂ unsigned-word (a ∙ ap natAbs (toZ
 -- everything else that the clauses say follows from which word it is
 module _ (total step : ℤ) (r : ℕ) (same : r ≡ nearest-word total step) where
   read : ofBits binary32 r ≡ rounded total step
-  read = ap (ofBits binary32) same ∙ ofBits-toBits binary32 (rounded total step) (round-fits binary32 (negative total) (natAbs total * up step) (down step))
+  read = ap (ofBits binary32) same ∙ ofBits-toBits binary32 (rounded total step) (round-fits binary32 (below-zero total) (natAbs total * up step) (down step))
 
   near : Nearest total step r
   near = subst (Nearest total step) (sym same) (word-nearest total step)
@@ -37,7 +37,7 @@ returns-then-total-lt0 c =
     let step = c .args .step in
     let r = 2 ^ 31 + c .unsigned-word-rest .result in
     let rest = rest-is total step _ _ (c .fits .total) (c .fits .step) (c .unsigned-abs .ensures .value) (c .unsigned-word-rest .ensures .value) in
-    let same : r ≡ nearest-word total step = ap (λ (x : ℕ). 2 ^ 31 + x) rest ∙ sym (nearest-word-negative total step (omega (arith, ints))) in
+    let same : r ≡ nearest-word total step = ap (λ (x : ℕ). 2 ^ 31 + x) rest ∙ sym (nearest-word-below-zero total step (omega (arith, ints))) in
     record { value = same; read = read total step r same; nearest = near total step r same; only = only total step r (omega arith) (near total step r same); given-back = back total step r same }
 
 pub returns-else-total-lt0 : need.returns-else-total-lt0
@@ -46,5 +46,5 @@ returns-else-total-lt0 c =
     let step = c .args .step in
     let r = c .unsigned-word-rest .result in
     let rest = rest-is total step _ _ (c .fits .total) (c .fits .step) (c .unsigned-abs .ensures .value) (c .unsigned-word-rest .ensures .value) in
-    let same : r ≡ nearest-word total step = rest ∙ sym (nearest-word-positive total step (omega (arith, ints))) in
+    let same : r ≡ nearest-word total step = rest ∙ sym (nearest-word-from-zero total step (omega (arith, ints))) in
     record { value = same; read = read total step r same; nearest = near total step r same; only = only total step r (omega arith) (near total step r same); given-back = back total step r same }

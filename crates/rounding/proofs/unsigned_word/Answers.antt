@@ -1,6 +1,6 @@
 use native.Mathlib.Omega.{arith}
 use mathlib.Core.Path.{_≡_, sym, ap, _∙_}
-use Prim.Native.Nat.{ℕ, _+_, _*_, _^_, _≤_, min}
+use Prim.Native.Nat.{ℕ, _*_, _≤_, min}
 use lib.IntN.{ℤ, pos, negsuc, _-ℤ_, natAbs}
 use mir.Syntax.{w64}
 use mir.Val.{Fits, toZ, ofZ}
@@ -59,10 +59,7 @@ returns c =
     let by-is : by ≡ c .args .step -ℤ last = omega (arith, ints, clamps) in
     let field-is : pos (natAbs field) ≡ last -ℤ negsuc 148 = omega (arith, ints, clamps) in
     let last-is : last ≡ last-place m (c .args .step) = omega (arith, ints, clamps) in
-    record {
-      value =
-          c .min .ensures
-          ∙ ap (λ (q : ℕ). min (natAbs field * 2 ^ 23 + q) 0x7F80_0000) (c .nearest-scaled-significand .ensures .value ∙ ap (λ (z : ℤ). nearest-whole (m * up z) (down z)) by-is)
-          ∙ sym (unsigned-word-is m (c .args .step) last (natAbs field) (omega arith) last-is field-is);
-      bound = omega arith;
-    }
+    let significand : c .nearest-scaled-significand .result ≡ nearest-whole (m * up (c .args .step -ℤ last)) (down (c .args .step -ℤ last)) =
+    c .nearest-scaled-significand .ensures .value ∙ ap (λ (z : ℤ). nearest-whole (m * up z) (down z)) by-is in
+    let word = unsigned-word-is m (c .args .step) last (natAbs field) (omega arith) last-is field-is in
+    record { value = omega (arith, ints, clamps, c .min .ensures); bound = omega arith }
