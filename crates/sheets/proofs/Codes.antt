@@ -1,12 +1,11 @@
 -- What the bits of a place say of its weight.
 use mathlib.Core.Path.{_≡_, refl, ap, _∙_}
-use mathlib.Core.Bool.{cond}
 use mathlib.Core.List.{List}
 use Prim.Native.Nat.{ℕ, zero, suc, _+_, _-_, _*_, _/_, _%_, _^_, _<_}
 use native.Mathlib.Nat.{pow-succ', mod-eq-of-lt, add-mod-right}
 use native.Mathlib.Omega.{arith}
 use lib.Dec.{ltb, eqb}
-use lib.IntN.{ℤ, pos, negℤ, natAbs, _+ℤ_}
+use lib.IntN.{pos, negℤ, natAbs, _+ℤ_}
 use lib.ListN.{getD}
 use Rattle.std.proofs.shelf.Bits.{mul-add-lt}
 use Rattle.std.proofs.shelf.Signed.{ints}
@@ -14,8 +13,8 @@ use Rattle.std.proofs.shelf.Tests.{cond-both, ltb-true, ltb-false, eqb-true, eq
 use Rattle.sheets.specs.declared.code.SheetCode.{SheetCode}
 use Rattle.sheets.specs.declared.code.SheetCode.the-variants.{Byte, Nibble, Planes}
 use Rattle.sheets.specs.Code.{plane-length}
-use Rattle.sheets.specs.Laws.{plane-code, code-at, Twos-complement, Stands-for, Codes-stand-for-weights, Same-page, Spare-bits-unread}
-use Rattle.sheets.specs.Packing.{signed, nibble, nibble-at, bit-at, plane-sum, plane-term, weight-at, page}
+use Rattle.sheets.specs.Laws.{plane-code, code-at, Twos-complement, Codes-stand-for-weights, Spare-bits-unread}
+use Rattle.sheets.specs.Packing.{signed, nibble, nibble-at, bit-at, plane-sum, weight-at}
 
 signed-stands : (half code : ℕ) → code < 2 * half → Twos-complement half code (signed half code)
 signed-stands half code h =

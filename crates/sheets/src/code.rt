@@ -1,6 +1,6 @@
 // How the weights of a sheet are packed.
 ghost use mathlib.Core.Path.{_≡_};
-ghost use Prim.Native.Nat.{ℕ, _*_, _^_, _<_};
+ghost use Prim.Native.Nat.{_*_, _^_, _<_};
 ghost use Rattle.sheets.specs.Code.{byte-length, coded, sheet-codes, sheet-number};
 
 // A byte to a weight, half a byte, or a bit in each of so many planes.

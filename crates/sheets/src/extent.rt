@@ -1,6 +1,6 @@
 // How many rows and columns a sheet has.
 ghost use mathlib.Core.Path.{_≡_};
-ghost use Prim.Native.Nat.{ℕ, _+_, _*_, _≤_};
+ghost use Prim.Native.Nat.{_+_, _*_, _≤_};
 ghost use Rattle.refusals.specs.Refusing.{Made, answer};
 ghost use Rattle.sheets.specs.Code.{byte-length};
 ghost use Rattle.sheets.specs.Extent.{column-count, row-count};
@@ -17,7 +17,7 @@ const MOST_COLUMNS: usize = 16;
 // Whatever the fields hold, the counts are within their bounds, so that no invariant is needed:
 // a type that has one cannot stand beside a reference in an enum, as a sheet does in a `Result`.
 #[derive(Clone, Copy)]
-pub struct Extent {
+pub(crate) struct Extent {
     rows: u16,
     columns: u8,
 }

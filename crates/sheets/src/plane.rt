@@ -1,6 +1,6 @@
 // A sheet with a bit to each plane of a weight.
 ghost use mathlib.Core.Path.{_≡_};
-ghost use Prim.Native.Nat.{ℕ, _≤_};
+ghost use Prim.Native.Nat.{_≤_};
 ghost use lib.ListN.{length};
 ghost use Rattle.refusals.specs.Refusing.{Made};
 ghost use Rattle.sheets.specs.declared.code.SheetCode.the-variants.{Planes};

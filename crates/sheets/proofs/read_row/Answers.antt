@@ -1,6 +1,5 @@
 -- Where no check refuses, the loop fills the whole buffer.
 use mathlib.Core.Path.{_≡_, refl, _∙_}
-use native.Mathlib.Omega.{arith}
 use borrow.Author.Needs.{needs}
 use lib.IntN.{pos}
 use lib.ListN.{length}

@@ -3,7 +3,7 @@ use native.Mathlib.Omega.{arith}
 use lib.IntN.{_+ℤ_}
 use lib.Pow.{pow-mono}
 use mir.Syntax.{w16}
-use mir.Val.{SFits, toZ, ofZ}
+use mir.Val.{SFits}
 use Rattle.std.proofs.shelf.Signed.{ints, toZ-ofZ}
 use Rattle.sheets.specs.Lawful.{plane-sum-small}
 use Rattle.sheets.proofs.Planes.{plane-sum-more}

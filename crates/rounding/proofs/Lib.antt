@@ -1,0 +1,9 @@
+pub mod Digits
+pub mod Bits
+pub mod Rounded
+pub mod Closest
+pub mod Fields
+pub mod Worth
+pub mod ByFields
+pub mod Nearest
+pub mod Unique
