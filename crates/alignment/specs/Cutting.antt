@@ -1,9 +1,9 @@
 -- A tile cut to a step: what refuses it, and the aligned numbers.
-use mathlib.Core.List.{List, [], _∷_}
+use mathlib.Core.List.{List, [], _∷_, _++_, map}
 use mathlib.Core.Bool.{false}
 use Prim.Native.Nat.{ℕ, _+_, _^_, _<_}
 use lib.IntN.{ℤ, pos, natAbs}
-use lib.ListN.{getD}
+use lib.ListN.{length, getD, drop}
 use lib.Signed.{ltZ}
 use Rattle.std.specs.declared.option.Option.{Option}
 use Rattle.std.specs.declared.option.Option.the-variants.{Some, None}
@@ -42,6 +42,10 @@ nothing = record { number = pos 0; lost = false }
 abbrev pub aligned : ℕ → Option Decoded → Aligned
 aligned step None = nothing
 aligned step (Some d) = record { number = cut step (value d); lost = lost step (value d) }
+
+-- a buffer whose front is written over with a tile's aligned numbers
+abbrev pub written-over : ℕ → Tile → List Aligned → List Aligned
+written-over step ts buffer = map (aligned step) ts ++ drop (length ts) buffer
 
 -- the first n numbers of a buffer are below 2^36 in magnitude
 abbrev pub Small : ℕ → List Aligned → Type 0

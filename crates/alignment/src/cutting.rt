@@ -1,14 +1,13 @@
 // Values cut to whole numbers of steps.
 ghost use mathlib.Core.Path.{_≡_};
-ghost use mathlib.Core.List.{map, _++_};
 ghost use Prim.Native.Nat.{ℕ, _^_, _<_};
 ghost use lib.IntN.{ℤ, pos, negℤ, natAbs};
-ghost use lib.ListN.{length, drop};
+ghost use lib.ListN.{length};
 ghost use lib.Signed.{_≤ℤ_};
 ghost use Rattle.std.specs.declared.option.Option.the-variants.{Some, None};
 ghost use Rattle.refusals.specs.Refusing.{answer, verdict, unless};
 ghost use Rattle.alignment.specs.Tile.{tile-of};
-ghost use Rattle.alignment.specs.Cutting.{step-size, word-check, cut-check, aligned, Small};
+ghost use Rattle.alignment.specs.Cutting.{step-size, word-check, cut-check, aligned, written-over, Small};
 use crate::TILE_WORDS;
 use crate::checked::Step;
 use formats::Format;
@@ -26,10 +25,10 @@ pub fn cut_tile<F: Format>(
     format: &F,
     words: &[F::Word],
     step: Step,
-    buffer: &mut [Aligned; 128],
+    buffer: &mut [Aligned; TILE_WORDS],
 ) -> Result<(), Refusal>
     ensures answers { λ r. ⌜ r ≡ verdict (cut-check (step .shared .exponent) (tile-of (F·Format .meaning (now (format .entry))) (now (words .entry)))) ⌝ }
-    ensures writes { λ _. ⌜ now (buffer .exit) ≡ unless (cut-check (step .shared .exponent) (tile-of (F·Format .meaning (now (format .entry))) (now (words .entry)))) (now (buffer .entry)) (map (aligned (step-size step)) (tile-of (F·Format .meaning (now (format .entry))) (now (words .entry))) ++ drop (length (now (words .entry))) (now (buffer .entry))) ⌝ }
+    ensures writes { λ _. ⌜ now (buffer .exit) ≡ unless (cut-check (step .shared .exponent) (tile-of (F·Format .meaning (now (format .entry))) (now (words .entry)))) (now (buffer .entry)) (written-over (step-size step) (tile-of (F·Format .meaning (now (format .entry))) (now (words .entry))) (now (buffer .entry))) ⌝ }
     ensures small { λ _. ⌜ (cut-check (step .shared .exponent) (tile-of (F·Format .meaning (now (format .entry))) (now (words .entry))) ≡ None → Small (length (now (words .entry))) (now (buffer .exit))) ⌝ }
 {
     if words.len() > TILE_WORDS {

@@ -63,8 +63,9 @@ returns g c =
     let cutting = aligned (step-of shared (c .args .step .extra .bits)) in
     let i = c .loop-row .row in
     let end : i ≡ length ws = omega (arith, c .loop-row-test .left, c .loop-row .kept .row-end) in
+    let whole = end ∙ sym (length-map ws f) in
     let none = few-enough f ws _ (c .if-words-gt-TILE-WORDS .left) ∙ c .loop-row .inv .0 ∙ ap (words-check shared i) (tile-all f ws i (c .loop-row-test .left)) in
-    let filled = filled-all cutting (map f ws) (c .args .buffer .now) (c .loop-row .numbers) i (end ∙ sym (length-map ws f)) (c .loop-row .inv .1) ∙ ap (λ n. map cutting (map f ws) ++ drop n (c .args .buffer .now)) end in
+    let filled = filled-all cutting (map f ws) (c .args .buffer .now) (c .loop-row .numbers) i whole (c .loop-row .inv .1) ∙ ap (λ n. map cutting (map f ws) ++ drop n (c .args .buffer .now)) whole in
     record {
       answers = accepted none refl;
       writes = filled ∙ changed _ _ none;
