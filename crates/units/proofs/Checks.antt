@@ -7,7 +7,7 @@ use Prim.Native.Nat.{ℕ, zero, suc, _+_, _^_, _<_, _≤_}
 use native.Mathlib.Omega.{arith}
 use native.Mathlib.Nat.{le-of-suc-le-suc}
 use lib.Dec.{T, leb}
-use lib.ListN.{length, getD, drop}
+use lib.ListN.{length, getD, drop, length-replicate}
 use lib.IntN.{ℤ, pos, natAbs, _*ℤ_}
 use mir.Syntax.{w64}
 use mir.Val.{SFits, toZ, ofZ}
@@ -20,10 +20,10 @@ use Rattle.std.proofs.shelf.Tests.{cond-true, cond-false, cases-lt, not-false, 
 use Rattle.std.proofs.shelf.Ways.{tells}
 use Rattle.refusals.specs.declared.Refusal.{Refusal}
 use Rattle.refusals.specs.declared.Refusal.the-variants.{WeightNotTaken, NoSuchColumn}
-use Rattle.refusals.specs.Refusing.{refuse, verdict}
+use Rattle.refusals.specs.Refusing.{refuse, verdict, unless}
 use Rattle.refusals.proofs.Refusing.{none-some, refused, accepted, changed, when-ok, when-err, passed}
-use Rattle.units.proofs.Reach.{length-plus, grown-bounded}
-use Rattle.units.specs.Meaning.{Meaning, Lawful, Bounded, columns-of, untaken, add-check, added, after-add, column-check, columns-check, total-at, reach}
+use Rattle.units.proofs.Reach.{length-plus, grown-bounded, zeros-bounded}
+use Rattle.units.specs.Meaning.{Meaning, Lawful, Bounded, columns-of, untaken, add-check, added, after-add, cleared, column-check, columns-check, total-at, reach}
 
 -- a test that is true, as a fact and as an equation
 pub true-from-T : (b : Bool) → T b → b ≡ true
@@ -116,6 +116,19 @@ added-lawful m a ws law ok =
       bounded = grown-bounded (m .rows) (m .totals) a ws (law .bounded) (ok .small) (weights-bounded m a ws (law .taken) ok);
     }
 
+pub cleared-lawful : (m : Meaning) → Lawful m → Lawful (cleared m)
+cleared-lawful m law =
+    let counted = length-replicate (columns-of m) (pos 0) in
+    record {
+      some-column = omega (arith, counted, law .some-column);
+      few-columns = omega (arith, counted, law .few-columns);
+      some-row = law .some-row;
+      few-rows = law .few-rows;
+      within = omega arith;
+      taken = law .taken;
+      bounded = zeros-bounded 0 (columns-of m);
+    }
+
 -- ---- a new unit
 pub columns-pass : (n : ℕ) → 1 ≤ n → n ≤ 16 → columns-check n ≡ None
 columns-pass n some few = grind (arith, tells)
@@ -148,3 +161,12 @@ total-refused m n c r same e =
 
 pub total-bounded : (m : Meaning) → Lawful m → Bounded (reach 65536) (m .totals)
 total-bounded m law c = omega (arith, law .bounded c, law .within, law .few-rows)
+
+-- ---- what a call leaves, refused or not
+pub unless-both : {X : Type 0} (P : X → Type 0) (o : Option Refusal) (old new : X) → P old → (o ≡ None → P new) → P (unless o old new)
+unless-both P None old new p q = q refl
+unless-both P (Some r) old new p q = p
+
+pub unless-map : {X Y : Type 0} (f : X → Y) (o : Option Refusal) (old new : X) (new′ : Y) → (o ≡ None → f new ≡ new′) → f (unless o old new) ≡ unless o (f old) new′
+unless-map f None old new new′ e = e refl
+unless-map f (Some r) old new new′ e = refl

@@ -11,7 +11,7 @@ use Rattle.planes.proofs.PlaneUnit.clear.Needs as need
 pub ghost-self : need.ghost-self
 ghost-self c =
     let u = c .args .self .now in
-    (refl, (zero-eights 16, (u .some, (u .few, (omega arith, (zero-bounded 0 16, tt))))))
+    (refl, (zero-eights 16, (u .some, (u .few, (omega arith, (zero-bounded _ 16, tt))))))
 
 pub returns : need.returns
 returns c =

@@ -1,0 +1,116 @@
+// The odd layer: a unit that takes only odd weights takes every weight through it, since 2w + 1 is odd. The layer
+// gets its total back by halving what the unit below has too much.
+ghost use mathlib.Core.Path.{_≡_};
+ghost use mathlib.Core.List.{map};
+ghost use Prim.Native.Nat.{_*_, _^_, _≤_};
+ghost use lib.IntN.{natAbs};
+ghost use lib.ListN.{length, take};
+ghost use Rattle.refusals.specs.Refusing.{verdict};
+ghost use Rattle.units.specs.Meaning.{Bounded, add-check, after-add, cleared};
+ghost use Rattle.layers.specs.Odd.{Odd-unclamped, odd-of, odd-on, odd-made, odd, fresh-odd, odd-add, odd-clear};
+use crate::hold;
+use refusals::Refusal;
+use units::Unit;
+
+#[derive(Drop)]
+pub struct Odd<U> {
+    below: U,
+    rows: u32,
+    // The sum of all aligned numbers.
+    sum: i64,
+    ghost short: { rows ≤ 65536 },
+    ghost bounded: { natAbs sum ≤ rows * 2 ^ 36 },
+}
+
+// Writes 2w + 1 for each weight w.
+fn double(weights: &[i16], odd: &mut [i16])
+    requires enough { ⌜ length (now weights) ≤ length (now odd) ⌝ }
+    requires light { ⌜ Bounded 128 (now weights) ⌝ }
+    ensures { λ _. ⌜ take (length (now (weights .entry))) (now (odd .exit)) ≡ map odd-of (now (weights .entry)) ⌝ }
+{
+    for (column, weight) in weights.iter().enumerate() {
+        odd[column] = 2 * *weight + 1;
+    }
+}
+
+// Hands an add down, with 2w + 1 for each weight w.
+fn add_odd<U: Unit>(below: &mut U, a: i64, weights: &[i16]) -> Result<(), Refusal>
+    requires few { ⌜ length (now weights) ≤ 16 ⌝ }
+    requires light { ⌜ Bounded 128 (now weights) ⌝ }
+    ensures answers { λ r. ⌜ r ≡ verdict (add-check (U·Unit .meaning (now (below .entry))) a (map odd-of (now (weights .entry)))) ⌝ }
+    ensures grows { λ _. ⌜ U·Unit .meaning (now (below .exit)) ≡ after-add (U·Unit .meaning (now (below .entry))) a (map odd-of (now (weights .entry))) ⌝ }
+{
+    let mut odd = [0; 16];
+    double(weights, &mut odd);
+    below.add(a, &odd[0..weights.len()])
+}
+
+impl<U: Unit> Odd<U> {
+    // An odd layer on the unit, which it clears.
+    pub fn new(mut below: U) -> Self
+        ensures made { λ r. ⌜ odd-on (U·Unit .meaning (r .below)) (r .rows) (r .sum) ≡ odd-made (U·Unit .meaning below) ⌝ }
+        ensures clears { λ r. ⌜ U·Unit .meaning (r .below) ≡ cleared (U·Unit .meaning below) ⌝ }
+        ensures fresh { λ r. ⌜ odd (odd-on (U·Unit .meaning (r .below)) (r .rows) (r .sum)) ≡ fresh-odd (U·Unit .meaning below) ⌝ }
+        ensures unclamped { λ _. ⌜ Odd-unclamped ⌝ }
+    {
+        below.clear();
+        Odd {
+            below,
+            rows: 0,
+            sum: 0,
+        }
+    }
+
+    // The unit that the layer stands on.
+    pub fn below(&self) -> &U
+        ensures { λ r. ⌜ now r ≡ now (self .entry) .below ⌝ }
+    {
+        &self.below
+    }
+}
+
+pub impl<U: Unit> Unit for Odd<U> as OddUnit {
+    ghost meaning = { λ d. odd (odd-on (U·Unit .meaning (d .below)) (d .rows) (d .sum)) };
+
+    fn columns(&self) -> usize {
+        self.below.columns()
+    }
+
+    fn rows(&self) -> u32 {
+        self.below.limit().min(self.rows.max(self.below.rows()))
+    }
+
+    fn limit(&self) -> u32 {
+        self.below.limit()
+    }
+
+    fn takes(&self, weight: i16) -> bool {
+        -128 <= weight && weight <= 127 && self.below.takes(2 * weight + 1)
+    }
+
+    fn total(&self, column: usize) -> Result<i64, Refusal> {
+        let below = self.below.total(column)?;
+        Ok(hold((below - self.sum) >> 1, self.rows()))
+    }
+
+    // Hands the row down with 2w + 1 for each weight w.
+    fn add(&mut self, a: i64, weights: &[i16]) -> Result<(), Refusal>
+        ensures answers { λ r. ⌜ r ≡ verdict (add-check (odd (odd-on (U·Unit .meaning (now (self .entry) .below)) (now (self .entry) .rows) (now (self .entry) .sum))) a (now (weights .entry))) ⌝ }
+        ensures grows { λ _. ⌜ odd (odd-on (U·Unit .meaning (now (self .exit) .below)) (now (self .exit) .rows) (now (self .exit) .sum)) ≡ after-add (odd (odd-on (U·Unit .meaning (now (self .entry) .below)) (now (self .entry) .rows) (now (self .entry) .sum))) a (now (weights .entry)) ⌝ }
+        ensures steps { λ _. ⌜ odd-on (U·Unit .meaning (now (self .exit) .below)) (now (self .exit) .rows) (now (self .exit) .sum) ≡ odd-add (odd-on (U·Unit .meaning (now (self .entry) .below)) (now (self .entry) .rows) (now (self .entry) .sum)) a (now (weights .entry)) ⌝ }
+    {
+        self.check(a, weights)?;
+        self.rows += 1;
+        self.sum += a;
+        add_odd(&mut self.below, a, weights)
+    }
+
+    fn clear(&mut self)
+        ensures clears { λ _. ⌜ odd (odd-on (U·Unit .meaning (now (self .exit) .below)) (now (self .exit) .rows) (now (self .exit) .sum)) ≡ cleared (odd (odd-on (U·Unit .meaning (now (self .entry) .below)) (now (self .entry) .rows) (now (self .entry) .sum))) ⌝ }
+        ensures steps { λ _. ⌜ odd-on (U·Unit .meaning (now (self .exit) .below)) (now (self .exit) .rows) (now (self .exit) .sum) ≡ odd-clear (odd-on (U·Unit .meaning (now (self .entry) .below)) (now (self .entry) .rows) (now (self .entry) .sum)) ⌝ }
+    {
+        self.below.clear();
+        self.rows = 0;
+        self.sum = 0;
+    }
+}
