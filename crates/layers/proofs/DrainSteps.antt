@@ -15,7 +15,7 @@ use Rattle.units.specs.Meaning.{Meaning, Lawful, Bounded, columns-of, reach, pl
 use Rattle.units.proofs.Checks.{Accepted, when-accepted, added-lawful, cleared-lawful, total-read, total-there, total-bounded, unless-both, unless-map}
 use Rattle.units.proofs.Reach.{length-plus, getD-plus, plus-bounded, plus-more, getD-plus-past, zeros-bounded}
 use Rattle.layers.specs.Layer.{Event, Add, Clear, held, shown, after}
-use Rattle.layers.specs.Drain.{DrainState, drain-on, drain-made, drain-states, drain, fresh-drain, moved-up, room-made, handed-down, drain-add, drain-clear, Drain-unclamped}
+use Rattle.layers.specs.Drain.{DrainState, drain-on, drain-made, drain-states, drain, fresh-drain, moved-up, room-made, handed-down, drain-add, drain-clear, Drain-unclamped, Drain-single}
 use Rattle.layers.proofs.Shown.{getD-shown, map-held, shown-lawful, shown-same}
 
 -- ---- lists of sums
@@ -212,3 +212,15 @@ unfolding Drain-unclamped
 drain-unclamped below law events =
     let kept = after-kept (drain-made below) events (made-kept below law) in
     drain-shows (after drain-add drain-clear (drain-made below) events) (kept .sound) (kept .short)
+
+single : (s : DrainState) (events : List Event) → Kept s → drain (after drain-add drain-clear s events) ≡ after after-add cleared (drain s) events
+single s [] kept = refl
+single s (Add a ws ∷ events) kept =
+    single (drain-add s a ws) events (add-kept s a ws kept) ∙ ap (λ m. after after-add cleared m events) (drain-grows s (kept .sound) a ws)
+single s (Clear ∷ events) kept =
+    single (drain-clear s) events (made-kept (s .below) (kept .sound .law)) ∙ ap (λ m. after after-add cleared m events) (drain-cleared s)
+
+pub drain-single : Drain-single
+unfolding Drain-single
+drain-single below law events =
+    single (drain-made below) events (made-kept below law) ∙ ap (λ m. after after-add cleared m events) (drain-new below)

@@ -17,7 +17,7 @@ use Rattle.units.specs.Meaning.{Meaning, Lawful, Bounded, columns-of, reach, gr
 use Rattle.units.proofs.Checks.{Accepted, T-from-true, when-accepted, added-lawful, cleared-lawful, total-there, unless-both, unless-map}
 use Rattle.units.proofs.Reach.{*ℤ-add, natAbs-sum, zeros-bounded}
 use Rattle.layers.specs.Layer.{Event, Add, Clear, held, after}
-use Rattle.layers.specs.Odd.{OddState, odd-on, odd-made, odd-of, half, odd-states, odd, fresh-odd, odd-handed-down, odd-add, odd-clear, Odd-unclamped}
+use Rattle.layers.specs.Odd.{OddState, odd-on, odd-made, odd-of, half, odd-states, odd, fresh-odd, odd-handed-down, odd-add, odd-clear, Odd-unclamped, Odd-single}
 use Rattle.layers.proofs.Shown.{getD-shown, map-held, shown-lawful, shown-same}
 
 -- ---- numbers
@@ -204,3 +204,15 @@ unfolding Odd-unclamped
 odd-unclamped below law events =
     let kept = after-kept (odd-made below) events (made-kept below law) in
     odd-shows (after odd-add odd-clear (odd-made below) events) (kept .sound) (omega (arith, kept .same-rows, kept .sound .law .within))
+
+single : (s : OddState) (events : List Event) → Kept s → odd (after odd-add odd-clear s events) ≡ after after-add cleared (odd s) events
+single s [] kept = refl
+single s (Add a ws ∷ events) kept =
+    single (odd-add s a ws) events (add-kept s a ws kept) ∙ ap (λ m. after after-add cleared m events) (odd-grows s (kept .sound) a ws)
+single s (Clear ∷ events) kept =
+    single (odd-clear s) events (made-kept (s .below) (kept .sound .law)) ∙ ap (λ m. after after-add cleared m events) (odd-cleared s)
+
+pub odd-single : Odd-single
+unfolding Odd-single
+odd-single below law events =
+    single (odd-made below) events (made-kept below law) ∙ ap (λ m. after after-add cleared m events) (odd-new below)

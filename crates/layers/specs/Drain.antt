@@ -7,7 +7,8 @@ use lib.Dec.{eqb}
 use lib.IntN.{ℤ, pos}
 use lib.ListN.{replicate}
 use Rattle.refusals.specs.Refusing.{unless}
-use Rattle.units.specs.Meaning.{Meaning, Lawful, plus-each, cleared, add-check, added}
+use Rattle.units.specs.Meaning.{Meaning, Lawful, plus-each, cleared, add-check, added, after-add}
+use Rattle.layers.specs.declared.Drain.{Drain}
 use Rattle.layers.specs.Layer.{Event, shown, after}
 
 -- the unit below, and what was moved up from it: the rows, and a sum for each column
@@ -19,6 +20,10 @@ pub record DrainState : Type 0 where
 -- a drain on a unit, with rows and sums of its own
 abbrev pub drain-on : Meaning → ℕ → List ℤ → DrainState
 drain-on below rows sums = record { below = below; rows = rows; sums = sums }
+
+-- what a drain holds, by what a unit means
+abbrev pub drain-holds : {U : Type 0} → (U → Meaning) → Drain U → DrainState
+drain-holds meaning d = drain-on (meaning (d .below)) (d .rows) (d .sums)
 
 -- a drain as it is made: on the unit cleared, with nothing moved up
 abbrev pub drain-made : Meaning → DrainState
@@ -59,3 +64,7 @@ drain-clear s = drain-made (s .below)
 -- no list of calls makes a drain on a lawful unit show other than its own rows and sums plus those below
 unfoldable pub Drain-unclamped : Type 0
 Drain-unclamped = (below : Meaning) → Lawful below → (events : List Event) → let s = after drain-add drain-clear (drain-made below) events in drain s ≡ drain-states s
+
+-- after every list of calls a drain on a lawful unit means what a single unit would that has room for 65,536 rows
+unfoldable pub Drain-single : Type 0
+Drain-single = (below : Meaning) → Lawful below → (events : List Event) → drain (after drain-add drain-clear (drain-made below) events) ≡ after after-add cleared (fresh-drain below) events

@@ -5,7 +5,8 @@ use Prim.Native.Nat.{ℕ, _+_, _/_, max}
 use lib.ListN.{replicate}
 use lib.IntN.{ℤ, pos, negsuc, _+ℤ_, _-ℤ_}
 use Rattle.refusals.specs.Refusing.{unless}
-use Rattle.units.specs.Meaning.{Meaning, Lawful, columns-of, cleared, add-check, added}
+use Rattle.units.specs.Meaning.{Meaning, Lawful, columns-of, cleared, add-check, added, after-add}
+use Rattle.layers.specs.declared.Odd.{Odd}
 use Rattle.layers.specs.Layer.{Event, shown, after}
 
 -- the unit below, the rows added, and the sum of their aligned numbers
@@ -17,6 +18,10 @@ pub record OddState : Type 0 where
 -- an odd layer on a unit, with rows and a sum of its own
 abbrev pub odd-on : Meaning → ℕ → ℤ → OddState
 odd-on below rows sum = record { below = below; rows = rows; sum = sum }
+
+-- what an odd layer holds, by what a unit means
+abbrev pub odd-holds : {U : Type 0} → (U → Meaning) → Odd U → OddState
+odd-holds meaning d = odd-on (meaning (d .below)) (d .rows) (d .sum)
 
 -- an odd layer as it is made: on the unit cleared, with no rows
 abbrev pub odd-made : Meaning → OddState
@@ -58,3 +63,7 @@ odd-clear s = odd-made (s .below)
 -- no list of calls makes an odd layer on a lawful unit show other than the larger row count and the halved totals
 unfoldable pub Odd-unclamped : Type 0
 Odd-unclamped = (below : Meaning) → Lawful below → (events : List Event) → let s = after odd-add odd-clear (odd-made below) events in odd s ≡ odd-states s
+
+-- after every list of calls an odd layer on a lawful unit means what a single unit would that takes its weights itself
+unfoldable pub Odd-single : Type 0
+Odd-single = (below : Meaning) → Lawful below → (events : List Event) → odd (after odd-add odd-clear (odd-made below) events) ≡ after after-add cleared (fresh-odd below) events

@@ -4,24 +4,14 @@ ghost use Prim.Native.Nat.{_+_, _≤_};
 ghost use lib.ListN.{length};
 ghost use Rattle.refusals.specs.Refusing.{verdict};
 ghost use Rattle.units.specs.Meaning.{Bounded, reach, columns-of, plus-each, add-check, after-add, cleared};
-ghost use Rattle.layers.specs.Drain.{Drain-unclamped, drain-on, drain-made, drain, fresh-drain, room-made, drain-add, drain-clear};
+ghost use Rattle.layers.specs.Drain.{Drain-unclamped, Drain-single, drain-holds, drain-made, drain, fresh-drain, room-made, drain-add, drain-clear};
+use crate::Drain;
 use crate::hold;
 use refusals::Refusal;
 use units::Unit;
 
 // The rows that a drain has room for.
 const LIMIT: u32 = 65_536;
-
-#[derive(Drop)]
-pub struct Drain<U> {
-    below: U,
-    // What was moved up: the rows, and a sum for each column.
-    rows: u32,
-    sums: [i64; 16],
-    ghost wide: { length sums ≡ 16 },
-    ghost short: { rows ≤ 65536 },
-    ghost bounded: { Bounded (reach rows) sums },
-}
 
 // Adds the unit's totals to the sums.
 fn move_up<U: Unit>(unit: &U, sums: &mut [i64])
@@ -37,10 +27,11 @@ fn move_up<U: Unit>(unit: &U, sums: &mut [i64])
 impl<U: Unit> Drain<U> {
     // A drain on the unit, which it clears.
     pub fn new(mut below: U) -> Self
-        ensures made { λ r. ⌜ drain-on (U·Unit .meaning (r .below)) (r .rows) (r .sums) ≡ drain-made (U·Unit .meaning below) ⌝ }
+        ensures made { λ r. ⌜ drain-holds (U·Unit .meaning) r ≡ drain-made (U·Unit .meaning below) ⌝ }
         ensures clears { λ r. ⌜ U·Unit .meaning (r .below) ≡ cleared (U·Unit .meaning below) ⌝ }
-        ensures fresh { λ r. ⌜ drain (drain-on (U·Unit .meaning (r .below)) (r .rows) (r .sums)) ≡ fresh-drain (U·Unit .meaning below) ⌝ }
+        ensures fresh { λ r. ⌜ drain (drain-holds (U·Unit .meaning) r) ≡ fresh-drain (U·Unit .meaning below) ⌝ }
         ensures unclamped { λ _. ⌜ Drain-unclamped ⌝ }
+        ensures single { λ _. ⌜ Drain-single ⌝ }
     {
         below.clear();
         Drain {
@@ -60,7 +51,7 @@ impl<U: Unit> Drain<U> {
     // Moves totals and rows up, and clears below, if the unit below is at its limit.
     fn make_room(&mut self)
         requires { ⌜ now self .rows + U·Unit .meaning (now self .below) .rows ≤ 65536 ⌝ }
-        ensures { λ _. ⌜ drain-on (U·Unit .meaning (now (self .exit) .below)) (now (self .exit) .rows) (now (self .exit) .sums) ≡ room-made (drain-on (U·Unit .meaning (now (self .entry) .below)) (now (self .entry) .rows) (now (self .entry) .sums)) ⌝ }
+        ensures { λ _. ⌜ drain-holds (U·Unit .meaning) (now (self .exit)) ≡ room-made (drain-holds (U·Unit .meaning) (now (self .entry))) ⌝ }
     {
         if self.below.rows() == self.below.limit() {
             move_up(&self.below, &mut self.sums);
@@ -71,7 +62,7 @@ impl<U: Unit> Drain<U> {
 }
 
 pub impl<U: Unit> Unit for Drain<U> as DrainUnit {
-    ghost meaning = { λ d. drain (drain-on (U·Unit .meaning (d .below)) (d .rows) (d .sums)) };
+    ghost meaning = { λ d. drain (drain-holds (U·Unit .meaning) d) };
 
     fn columns(&self) -> usize {
         self.below.columns()
@@ -96,9 +87,9 @@ pub impl<U: Unit> Unit for Drain<U> as DrainUnit {
 
     // Hands the row down as it came, after a move up if the unit below is full.
     fn add(&mut self, a: i64, weights: &[i16]) -> Result<(), Refusal>
-        ensures answers { λ r. ⌜ r ≡ verdict (add-check (drain (drain-on (U·Unit .meaning (now (self .entry) .below)) (now (self .entry) .rows) (now (self .entry) .sums))) a (now (weights .entry))) ⌝ }
-        ensures grows { λ _. ⌜ drain (drain-on (U·Unit .meaning (now (self .exit) .below)) (now (self .exit) .rows) (now (self .exit) .sums)) ≡ after-add (drain (drain-on (U·Unit .meaning (now (self .entry) .below)) (now (self .entry) .rows) (now (self .entry) .sums))) a (now (weights .entry)) ⌝ }
-        ensures steps { λ _. ⌜ drain-on (U·Unit .meaning (now (self .exit) .below)) (now (self .exit) .rows) (now (self .exit) .sums) ≡ drain-add (drain-on (U·Unit .meaning (now (self .entry) .below)) (now (self .entry) .rows) (now (self .entry) .sums)) a (now (weights .entry)) ⌝ }
+        ensures answers { λ r. ⌜ r ≡ verdict (add-check (drain (drain-holds (U·Unit .meaning) (now (self .entry)))) a (now (weights .entry))) ⌝ }
+        ensures grows { λ _. ⌜ drain (drain-holds (U·Unit .meaning) (now (self .exit))) ≡ after-add (drain (drain-holds (U·Unit .meaning) (now (self .entry)))) a (now (weights .entry)) ⌝ }
+        ensures steps { λ _. ⌜ drain-holds (U·Unit .meaning) (now (self .exit)) ≡ drain-add (drain-holds (U·Unit .meaning) (now (self .entry))) a (now (weights .entry)) ⌝ }
     {
         self.check(a, weights)?;
         self.make_room();
@@ -106,8 +97,8 @@ pub impl<U: Unit> Unit for Drain<U> as DrainUnit {
     }
 
     fn clear(&mut self)
-        ensures clears { λ _. ⌜ drain (drain-on (U·Unit .meaning (now (self .exit) .below)) (now (self .exit) .rows) (now (self .exit) .sums)) ≡ cleared (drain (drain-on (U·Unit .meaning (now (self .entry) .below)) (now (self .entry) .rows) (now (self .entry) .sums))) ⌝ }
-        ensures steps { λ _. ⌜ drain-on (U·Unit .meaning (now (self .exit) .below)) (now (self .exit) .rows) (now (self .exit) .sums) ≡ drain-clear (drain-on (U·Unit .meaning (now (self .entry) .below)) (now (self .entry) .rows) (now (self .entry) .sums)) ⌝ }
+        ensures clears { λ _. ⌜ drain (drain-holds (U·Unit .meaning) (now (self .exit))) ≡ cleared (drain (drain-holds (U·Unit .meaning) (now (self .entry)))) ⌝ }
+        ensures steps { λ _. ⌜ drain-holds (U·Unit .meaning) (now (self .exit)) ≡ drain-clear (drain-holds (U·Unit .meaning) (now (self .entry))) ⌝ }
     {
         self.below.clear();
         self.rows = 0;

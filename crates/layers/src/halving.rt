@@ -2,34 +2,24 @@
 // gets its total back by halving what the unit below has too much.
 ghost use mathlib.Core.Path.{_≡_};
 ghost use mathlib.Core.List.{map};
-ghost use Prim.Native.Nat.{_*_, _^_, _≤_};
-ghost use lib.IntN.{natAbs};
+ghost use Prim.Native.Nat.{_≤_};
 ghost use lib.ListN.{length, take};
 ghost use Rattle.refusals.specs.Refusing.{verdict};
 ghost use Rattle.units.specs.Meaning.{Bounded, add-check, after-add, cleared};
-ghost use Rattle.layers.specs.Odd.{Odd-unclamped, odd-of, odd-on, odd-made, odd, fresh-odd, odd-add, odd-clear};
+ghost use Rattle.layers.specs.Odd.{Odd-unclamped, Odd-single, odd-of, odd-holds, odd-made, odd, fresh-odd, odd-add, odd-clear};
+use crate::Odd;
 use crate::hold;
 use refusals::Refusal;
 use units::Unit;
 
-#[derive(Drop)]
-pub struct Odd<U> {
-    below: U,
-    rows: u32,
-    // The sum of all aligned numbers.
-    sum: i64,
-    ghost short: { rows ≤ 65536 },
-    ghost bounded: { natAbs sum ≤ rows * 2 ^ 36 },
-}
-
 // Writes 2w + 1 for each weight w.
-fn double(weights: &[i16], odd: &mut [i16])
-    requires enough { ⌜ length (now weights) ≤ length (now odd) ⌝ }
+fn double(weights: &[i16], doubled: &mut [i16])
+    requires enough { ⌜ length (now weights) ≤ length (now doubled) ⌝ }
     requires light { ⌜ Bounded 128 (now weights) ⌝ }
-    ensures { λ _. ⌜ take (length (now (weights .entry))) (now (odd .exit)) ≡ map odd-of (now (weights .entry)) ⌝ }
+    ensures { λ _. ⌜ take (length (now (weights .entry))) (now (doubled .exit)) ≡ map odd-of (now (weights .entry)) ⌝ }
 {
     for (column, weight) in weights.iter().enumerate() {
-        odd[column] = 2 * *weight + 1;
+        doubled[column] = 2 * *weight + 1;
     }
 }
 
@@ -40,18 +30,19 @@ fn add_odd<U: Unit>(below: &mut U, a: i64, weights: &[i16]) -> Result<(), Refusa
     ensures answers { λ r. ⌜ r ≡ verdict (add-check (U·Unit .meaning (now (below .entry))) a (map odd-of (now (weights .entry)))) ⌝ }
     ensures grows { λ _. ⌜ U·Unit .meaning (now (below .exit)) ≡ after-add (U·Unit .meaning (now (below .entry))) a (map odd-of (now (weights .entry))) ⌝ }
 {
-    let mut odd = [0; 16];
-    double(weights, &mut odd);
-    below.add(a, &odd[0..weights.len()])
+    let mut doubled = [0; 16];
+    double(weights, &mut doubled);
+    below.add(a, &doubled[0..weights.len()])
 }
 
 impl<U: Unit> Odd<U> {
     // An odd layer on the unit, which it clears.
     pub fn new(mut below: U) -> Self
-        ensures made { λ r. ⌜ odd-on (U·Unit .meaning (r .below)) (r .rows) (r .sum) ≡ odd-made (U·Unit .meaning below) ⌝ }
+        ensures made { λ r. ⌜ odd-holds (U·Unit .meaning) r ≡ odd-made (U·Unit .meaning below) ⌝ }
         ensures clears { λ r. ⌜ U·Unit .meaning (r .below) ≡ cleared (U·Unit .meaning below) ⌝ }
-        ensures fresh { λ r. ⌜ odd (odd-on (U·Unit .meaning (r .below)) (r .rows) (r .sum)) ≡ fresh-odd (U·Unit .meaning below) ⌝ }
+        ensures fresh { λ r. ⌜ odd (odd-holds (U·Unit .meaning) r) ≡ fresh-odd (U·Unit .meaning below) ⌝ }
         ensures unclamped { λ _. ⌜ Odd-unclamped ⌝ }
+        ensures single { λ _. ⌜ Odd-single ⌝ }
     {
         below.clear();
         Odd {
@@ -70,7 +61,7 @@ impl<U: Unit> Odd<U> {
 }
 
 pub impl<U: Unit> Unit for Odd<U> as OddUnit {
-    ghost meaning = { λ d. odd (odd-on (U·Unit .meaning (d .below)) (d .rows) (d .sum)) };
+    ghost meaning = { λ d. odd (odd-holds (U·Unit .meaning) d) };
 
     fn columns(&self) -> usize {
         self.below.columns()
@@ -95,9 +86,9 @@ pub impl<U: Unit> Unit for Odd<U> as OddUnit {
 
     // Hands the row down with 2w + 1 for each weight w.
     fn add(&mut self, a: i64, weights: &[i16]) -> Result<(), Refusal>
-        ensures answers { λ r. ⌜ r ≡ verdict (add-check (odd (odd-on (U·Unit .meaning (now (self .entry) .below)) (now (self .entry) .rows) (now (self .entry) .sum))) a (now (weights .entry))) ⌝ }
-        ensures grows { λ _. ⌜ odd (odd-on (U·Unit .meaning (now (self .exit) .below)) (now (self .exit) .rows) (now (self .exit) .sum)) ≡ after-add (odd (odd-on (U·Unit .meaning (now (self .entry) .below)) (now (self .entry) .rows) (now (self .entry) .sum))) a (now (weights .entry)) ⌝ }
-        ensures steps { λ _. ⌜ odd-on (U·Unit .meaning (now (self .exit) .below)) (now (self .exit) .rows) (now (self .exit) .sum) ≡ odd-add (odd-on (U·Unit .meaning (now (self .entry) .below)) (now (self .entry) .rows) (now (self .entry) .sum)) a (now (weights .entry)) ⌝ }
+        ensures answers { λ r. ⌜ r ≡ verdict (add-check (odd (odd-holds (U·Unit .meaning) (now (self .entry)))) a (now (weights .entry))) ⌝ }
+        ensures grows { λ _. ⌜ odd (odd-holds (U·Unit .meaning) (now (self .exit))) ≡ after-add (odd (odd-holds (U·Unit .meaning) (now (self .entry)))) a (now (weights .entry)) ⌝ }
+        ensures steps { λ _. ⌜ odd-holds (U·Unit .meaning) (now (self .exit)) ≡ odd-add (odd-holds (U·Unit .meaning) (now (self .entry))) a (now (weights .entry)) ⌝ }
     {
         self.check(a, weights)?;
         self.rows += 1;
@@ -106,8 +97,8 @@ pub impl<U: Unit> Unit for Odd<U> as OddUnit {
     }
 
     fn clear(&mut self)
-        ensures clears { λ _. ⌜ odd (odd-on (U·Unit .meaning (now (self .exit) .below)) (now (self .exit) .rows) (now (self .exit) .sum)) ≡ cleared (odd (odd-on (U·Unit .meaning (now (self .entry) .below)) (now (self .entry) .rows) (now (self .entry) .sum))) ⌝ }
-        ensures steps { λ _. ⌜ odd-on (U·Unit .meaning (now (self .exit) .below)) (now (self .exit) .rows) (now (self .exit) .sum) ≡ odd-clear (odd-on (U·Unit .meaning (now (self .entry) .below)) (now (self .entry) .rows) (now (self .entry) .sum)) ⌝ }
+        ensures clears { λ _. ⌜ odd (odd-holds (U·Unit .meaning) (now (self .exit))) ≡ cleared (odd (odd-holds (U·Unit .meaning) (now (self .entry)))) ⌝ }
+        ensures steps { λ _. ⌜ odd-holds (U·Unit .meaning) (now (self .exit)) ≡ odd-clear (odd-holds (U·Unit .meaning) (now (self .entry))) ⌝ }
     {
         self.below.clear();
         self.rows = 0;

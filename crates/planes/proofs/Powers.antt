@@ -14,7 +14,7 @@ use Rattle.std.proofs.shelf.Bits.{shr-shr}
 use Rattle.std.proofs.shelf.Lists.{at-drop-more, length-map, length-take-le, getD-map, getD-take, take-replicate}
 use Rattle.std.proofs.shelf.Tests.{cond-both, and-parts, leb-true, eqb-true, eqb-false}
 use Rattle.units.specs.Meaning.{Bounded, reach, plus-each, grown}
-use Rattle.planes.specs.Plane.{Eights, EachBounded, Signs-weigh, takes-odd, code, signed, signs, weigh, spread}
+use Rattle.planes.specs.Columns.{Eights, EachBounded, Signs-weigh, takes-odd, code, signed, signs, weigh, spread}
 use Rattle.units.proofs.Checks.{true-from-T}
 use Rattle.units.proofs.Reach.{*ℤ-add, natAbs-sum, length-plus, plus-bounded, plus-more, getD-plus-past, zeros-bounded}
 

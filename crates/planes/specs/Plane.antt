@@ -1,56 +1,15 @@
--- What the plane unit means: eight sums for each column, one for each power of two.
-use mathlib.Core.Path.{_≡_}
-use mathlib.Core.List.{List, [], _∷_, map}
-use mathlib.Core.Bool.{Bool, cond, _&&_}
-use Prim.Native.Nat.{ℕ, zero, suc, _/_, _%_, _<_}
-use lib.Dec.{T, leb, eqb}
-use lib.IntN.{ℤ, pos, negℤ, natAbs, _+ℤ_, _*ℤ_}
-use lib.ListN.{length, getD, take, replicate}
-use Rattle.units.specs.Meaning.{Meaning, Bounded, plus-each}
+-- What the plane unit means.
+use mathlib.Core.List.{map}
+use Prim.Native.Nat.{ℕ}
+use lib.IntN.{pos}
+use lib.ListN.{take, replicate}
+use Rattle.units.specs.Meaning.{Meaning}
+use Rattle.planes.specs.declared.Plane.{Plane}
+use Rattle.planes.specs.Columns.{takes-odd, weigh}
 
--- the odd weights of -255 to 255
-abbrev pub takes-odd : ℤ → Bool
-takes-odd w = leb (natAbs w) 255 && eqb (natAbs w % 2) 1
-
--- the bits of the code say for each power of two whether the weight has it with + or with -
-abbrev pub code : ℤ → ℕ
-code w = natAbs (w +ℤ pos 255) / 2
-
--- a where the lowest bit is 1, else -a
-abbrev pub signed : ℤ → ℕ → ℤ
-signed a bits = cond (eqb (bits % 2) 1) a (negℤ a)
-
--- a or -a for each of so many bits, the lowest first
-abbrev pub signs : ℕ → ℤ → ℕ → List ℤ
-signs zero a bits = []
-signs (suc k) a bits = signed a bits ∷ signs k a (bits / 2)
-
--- sums for the powers of two, the lowest first, each taken as often as its power says
-abbrev pub weigh : List ℤ → ℤ
-weigh [] = pos 0
-weigh (s ∷ ss) = s +ℤ (weigh ss +ℤ weigh ss)
-
--- for every number and every weight that the unit takes, the eight signs weigh number × weight
-unfoldable pub Signs-weigh : Type 0
-Signs-weigh = (a w : ℤ) → T (takes-odd w) → weigh (signs 8 a (code w)) ≡ a *ℤ w
-
--- each column that has a weight takes a or -a into its eight sums
-abbrev pub spread : List (List ℤ) → ℤ → List ℤ → List (List ℤ)
-spread [] a ws = []
-spread (c ∷ cs) a [] = c ∷ cs
-spread (c ∷ cs) a (w ∷ ws) = plus-each c (signs 8 a (code w)) ∷ spread cs a ws
-
--- each column has eight sums
-abbrev pub Eights : List (List ℤ) → Type 0
-Eights cs = (c : ℕ) → c < length cs → length (getD cs c []) ≡ 8
-
--- no sum of any column is greater than n in magnitude
-abbrev pub EachBounded : ℕ → List (List ℤ) → Type 0
-EachBounded n cs = (c : ℕ) → Bounded n (getD cs c [])
-
--- a plane unit of so many columns and rows, with room for 64 rows: a total is what a column's eight sums weigh
-abbrev pub plane : ℕ → ℕ → List (List ℤ) → Meaning
-plane columns rows sums = record { rows = rows; limit = 64; totals = map weigh (take columns sums); takes = takes-odd }
+-- room for 64 rows, odd weights taken, and for each column in use the total that its eight sums weigh
+abbrev pub plane : Plane → Meaning
+plane u = record { rows = u .rows; limit = 64; totals = map weigh (take (u .columns) (u .sums)); takes = takes-odd }
 
 -- a new plane unit
 abbrev pub fresh-plane : ℕ → Meaning

@@ -1,11 +1,12 @@
 // A unit sums activation × weight, column by column. This crate has what every unit does, and the multiplier unit.
 ghost use mathlib.Core.Path.{_≡_};
+ghost use Prim.Native.Nat.{_≤_};
+ghost use lib.ListN.{length};
 ghost use Rattle.refusals.specs.Refusing.{verdict};
-ghost use Rattle.units.specs.Meaning.{Meaning, Lawful, columns-of, add-check, after-add, cleared, total-at};
+ghost use Rattle.units.specs.Meaning.{Meaning, Lawful, Bounded, reach, columns-of, add-check, after-add, cleared, total-at};
 
 mod multiply;
 
-pub use multiply::Multiplier;
 pub use multiply::MultiplierUnit;
 use refusals::Refusal;
 
@@ -61,4 +62,18 @@ pub trait Unit {
     // Sets the rows and the totals to 0.
     fn clear(&mut self)
         ensures clears { λ _. ⌜ meaning (now (self .exit)) ≡ cleared (meaning (now (self .entry))) ⌝ };
+}
+
+// The multiplier unit: one sum for each column, to which it adds each product.
+#[derive(Drop)]
+pub struct Multiplier {
+    columns: usize,
+    rows: u32,
+    // The first `columns` of these are the totals.
+    sums: [i64; 16],
+    ghost wide: { length sums ≡ 16 },
+    ghost some: { 1 ≤ columns },
+    ghost few: { columns ≤ 16 },
+    ghost short: { rows ≤ 128 },
+    ghost bounded: { Bounded (reach rows) sums },
 }

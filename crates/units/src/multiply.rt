@@ -1,4 +1,4 @@
-// The multiplier unit: one sum for each column, to which it adds each product.
+// What the multiplier unit does.
 ghost use mathlib.Core.Path.{_≡_};
 ghost use Prim.Native.Nat.{_^_, _<_, _≤_};
 ghost use lib.IntN.{natAbs, _+ℤ_, _*ℤ_};
@@ -6,24 +6,12 @@ ghost use lib.ListN.{length};
 ghost use Rattle.refusals.specs.Refusing.{Made};
 ghost use Rattle.units.specs.Meaning.{columns-check, Bounded, reach, grown};
 ghost use Rattle.units.specs.Multiplier.{multiplier, fresh-multiplier};
+use crate::Multiplier;
 use crate::Unit;
 use refusals::Refusal;
 
 // The rows that a multiplier has room for.
 const LIMIT: u32 = 128;
-
-#[derive(Drop)]
-pub struct Multiplier {
-    columns: usize,
-    rows: u32,
-    // The first `columns` of these are the totals.
-    sums: [i64; 16],
-    ghost wide: { length sums ≡ 16 },
-    ghost some: { 1 ≤ columns },
-    ghost few: { columns ≤ 16 },
-    ghost short: { rows ≤ 128 },
-    ghost bounded: { Bounded (reach rows) sums },
-}
 
 // A sum with one product more.
 fn raised(sum: i64, a: i64, weight: i16) -> i64
@@ -50,7 +38,7 @@ fn grow(sums: &mut [i64], a: i64, weights: &[i16])
 
 impl Multiplier {
     pub fn new(columns: usize) -> Result<Multiplier, Refusal>
-        ensures { λ r. ⌜ Made (columns-check columns) (λ u. multiplier (u .columns) (u .rows) (u .sums) ≡ fresh-multiplier columns) r ⌝ }
+        ensures { λ r. ⌜ Made (columns-check columns) (λ u. multiplier u ≡ fresh-multiplier columns) r ⌝ }
     {
         if columns == 0 || columns > 16 {
             return Err(Refusal::ColumnCount);
@@ -64,7 +52,7 @@ impl Multiplier {
 }
 
 pub impl Unit for Multiplier as MultiplierUnit {
-    ghost meaning = { λ u. multiplier (u .columns) (u .rows) (u .sums) };
+    ghost meaning = { multiplier };
 
     fn columns(&self) -> usize {
         self.columns

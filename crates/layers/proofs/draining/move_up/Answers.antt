@@ -1,4 +1,4 @@
-use mathlib.Core.Path.{sym, ap, _∙_}
+use mathlib.Core.Path.{_≡_, sym, ap, subst, _∙_}
 use borrow.Author.Needs.{needs}
 use native.Mathlib.Omega.{arith}
 use Prim.Native.Nat.{_≤_}
@@ -8,7 +8,8 @@ use mir.Syntax.{w64}
 use mir.Val.{SFits}
 use Rattle.std.proofs.shelf.Lists.{take-all}
 use Rattle.std.proofs.shelf.Signed.{toZ-ofZ}
-use Rattle.units.specs.Meaning.{plus-each}
+use Rattle.std.specs.declared.result.Result.the-variants.{Ok}
+use Rattle.units.specs.Meaning.{plus-each, total-at}
 use Rattle.units.proofs.Reach.{sum-fits, plus-nil}
 use Rattle.layers.proofs.DrainSteps.{moved}
 use Rattle.layers.proofs.draining.move_up.Needs as need
@@ -17,7 +18,7 @@ pub add-sums : need.add-sums
 add-sums g c =
     let m = g .U·Unit .meaning (c .args .unit .now) in
     let sum = getD (c .loop-column .sums) (c .loop-column .column) (pos 0) in
-    let read = sym (c .total .ensures) ∙ c .unwrap .ensures in
+    let read : total-at m (c .loop-column .column) ≡ Ok (c .unwrap .result) = subst (λ o. o ≡ Ok (c .unwrap .result)) (c .total .ensures) (c .unwrap .ensures) in
     let step = moved m (c .args .sums .now) (c .loop-column .sums) (c .loop-column .column) (c .unwrap .result) (g .U·Unit·met .lawful (c .args .unit .now)) (c .pre .enough) (c .pre .bounded) (c .loop-column .inv) read in
     let old-fits : SFits w64 sum = search needs in
     let total-fits : SFits w64 (c .unwrap .result) = search needs in
@@ -30,7 +31,7 @@ pub loop-column-again : need.loop-column-again
 loop-column-again g c =
     let m = g .U·Unit .meaning (c .args .unit .now) in
     let sum = getD (c .loop-column .sums) (c .loop-column .column) (pos 0) in
-    let read = sym (c .total .ensures) ∙ c .unwrap .ensures in
+    let read : total-at m (c .loop-column .column) ≡ Ok (c .unwrap .result) = subst (λ o. o ≡ Ok (c .unwrap .result)) (c .total .ensures) (c .unwrap .ensures) in
     let step = moved m (c .args .sums .now) (c .loop-column .sums) (c .loop-column .column) (c .unwrap .result) (g .U·Unit·met .lawful (c .args .unit .now)) (c .pre .enough) (c .pre .bounded) (c .loop-column .inv) read in
     let old-fits : SFits w64 sum = search needs in
     let total-fits : SFits w64 (c .unwrap .result) = search needs in

@@ -12,14 +12,14 @@ use Rattle.std.proofs.shelf.Signed.{ints}
 use Rattle.layers.specs.Odd.{odd-of}
 use Rattle.layers.proofs.halving.double.Needs as need
 
-pub mul-odd : need.mul-odd
-mul-odd c =
+pub mul-doubled : need.mul-doubled
+mul-doubled c =
     let light = c .pre .light (c .loop-column .column) in
     let fits : SFits w16 (getD (c .args .weights .now) (c .loop-column .column) (pos 0)) = search needs in
     omega (arith, ints)
 
-pub add-odd : need.add-odd
-add-odd c =
+pub add-doubled : need.add-doubled
+add-doubled c =
     let light = c .pre .light (c .loop-column .column) in
     let fits : SFits w16 (getD (c .args .weights .now) (c .loop-column .column) (pos 0)) = search needs in
     omega (arith, ints)
@@ -31,10 +31,10 @@ loop-column-again c =
     let w = getD ws i (pos 0) in
     let light = c .pre .light i in
     let fits : SFits w16 w = search needs in
-    let here : i < length (c .loop-column .odd) = omega (arith, c .pre .enough, c .loop-column .kept .odd) in
+    let here : i < length (c .loop-column .doubled) = omega (arith, c .pre .enough, c .loop-column .kept .doubled) in
     let value : toZ w16 (ofZ w16 (toZ w16 (ofZ w16 (pos 2 *ℤ toZ w16 (ofZ w16 w))) +ℤ pos 1)) ≡ odd-of w = omega (arith, ints) in
-    ap (λ y. take (i + 1) (set (c .loop-column .odd) i y)) value
-    ∙ take-more-set (c .loop-column .odd) i (odd-of w) here
+    ap (λ y. take (i + 1) (set (c .loop-column .doubled) i y)) value
+    ∙ take-more-set (c .loop-column .doubled) i (odd-of w) here
     ∙ ap (λ xs. xs ++ odd-of w ∷ []) (c .loop-column .inv)
     ∙ sym (map-more odd-of ws i (pos 0) (c .loop-column-test .taken))
 
@@ -42,4 +42,4 @@ pub returns : need.returns
 returns c =
     let ws = c .args .weights .now in
     let all : length ws ≡ c .loop-column .column = omega (arith, c .loop-column-test .left, c .loop-column .kept .column-end) in
-    ap (λ n. take n (c .loop-column .odd)) all ∙ c .loop-column .inv ∙ ap (map odd-of) (take-all (c .loop-column .column) ws (c .loop-column-test .left))
+    ap (λ n. take n (c .loop-column .doubled)) all ∙ c .loop-column .inv ∙ ap (map odd-of) (take-all (c .loop-column .column) ws (c .loop-column-test .left))

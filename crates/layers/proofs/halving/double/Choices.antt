@@ -5,4 +5,4 @@ use Rattle.layers.specs.Odd.{odd-of}
 use Rattle.layers.proofs.halving.double.Given as given
 
 abbrev pub Inv-loop-column : given.InvT-loop-column
-Inv-loop-column l = take (l .column) (l .odd) ≡ map odd-of (take (l .column) (l .weights))
+Inv-loop-column l = take (l .column) (l .doubled) ≡ map odd-of (take (l .column) (l .weights))

@@ -4,7 +4,7 @@ use native.Mathlib.Omega.{arith}
 use borrow.Author.Needs.{needs}
 use lib.IntN.{ℤ}
 use Rattle.units.specs.Meaning.{Meaning}
-use Rattle.planes.specs.Plane.{takes-odd}
+use Rattle.planes.specs.Columns.{takes-odd}
 use Rattle.refusals.proofs.Refusing.{made}
 use Rattle.units.proofs.Checks.{columns-pass}
 use Rattle.planes.proofs.Powers.{signs-weigh, plane-zeros, zero-eights, zero-bounded}

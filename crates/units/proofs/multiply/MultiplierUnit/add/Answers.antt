@@ -10,22 +10,19 @@ use Rattle.std.proofs.shelf.Signed.{toZ-ofZ}
 use Rattle.std.proofs.shelf.Tests.{leb-true}
 use Rattle.units.specs.Meaning.{Meaning, Bounded, reach, grown}
 use Rattle.units.specs.Multiplier.{multiplier, takes-every}
-use Rattle.units.specs.declared.multiply.Multiplier.{Multiplier}
+use Rattle.units.specs.declared.Multiplier.{Multiplier}
 use Rattle.units.proofs.Checks.{Accepted, accepted-at-ok, weights-bounded, true-from-T, answers-ok, leaves-added}
 use Rattle.units.proofs.Reach.{length-plus, take-plus, grown-bounded}
 use Rattle.units.proofs.multiply.MultiplierUnit.add.Needs as need
 
-abbrev meaning : Multiplier → Meaning
-meaning u = multiplier (u .columns) (u .rows) (u .sums)
-
-light : (u : Multiplier) (a : ℤ) (ws : List ℤ) → Accepted (meaning u) a ws → Bounded 255 ws
-light u a ws ok = weights-bounded (meaning u) a ws (λ w t. leb-true _ _ (true-from-T _ t)) ok
+light : (u : Multiplier) (a : ℤ) (ws : List ℤ) → Accepted (multiplier u) a ws → Bounded 255 ws
+light u a ws ok = weights-bounded (multiplier u) a ws (λ w t. leb-true _ _ (true-from-T _ t)) ok
 
 pub grow-requires : need.grow-requires
 grow-requires c κs =
     let u = c .args .self .now in
     let a-fits = c .fits .a in
-    let ok = accepted-at-ok (meaning u) (c .args .a) (c .args .weights .now) a-fits (c .in-Continue-check .ensures tt) in
+    let ok = accepted-at-ok (multiplier u) (c .args .a) (c .args .weights .now) a-fits (c .in-Continue-check .ensures tt) in
     record {
       enough = omega (arith, ok .one-each, length-take (u .columns) (u .sums));
       small = simp toZ-ofZ (ok .small);
@@ -37,7 +34,7 @@ pub ghost-self : need.ghost-self
 ghost-self c =
     let u = c .args .self .now in
     let ws = c .args .weights .now in
-    let ok = accepted-at-ok (meaning u) (c .args .a) ws (c .fits .a) (c .in-Continue-check .ensures tt) in
+    let ok = accepted-at-ok (multiplier u) (c .args .a) ws (c .fits .a) (c .in-Continue-check .ensures tt) in
     let grew = c .grow .ensures ∙ ap (λ a. grown (u .sums) a ws) (toZ-ofZ w64 _ (c .fits .a)) in
     let wide = ap length grew ∙ length-plus (u .sums) _ ∙ u .wide in
     let bounded : Bounded (reach (u .rows + 1)) (c .grow .last .sums) = rw grew (grown-bounded (u .rows) (u .sums) (c .args .a) ws (u .bounded) (ok .small) (light u (c .args .a) ws ok)) in
@@ -47,10 +44,10 @@ pub returns : need.returns
 returns c =
     let u = c .args .self .now in
     let ws = c .args .weights .now in
-    let ok = accepted-at-ok (meaning u) (c .args .a) ws (c .fits .a) (c .in-Continue-check .ensures tt) in
+    let ok = accepted-at-ok (multiplier u) (c .args .a) ws (c .fits .a) (c .in-Continue-check .ensures tt) in
     let grew = c .grow .ensures ∙ ap (λ a. grown (u .sums) a ws) (toZ-ofZ w64 _ (c .fits .a)) in
     let with-totals : List ℤ → Meaning = λ ts. record { rows = u .rows + 1; limit = 128; totals = ts; takes = takes-every } in
     record {
-      answers = answers-ok (meaning u) (c .args .a) ws ok;
-      grows = ap with-totals (ap (take (u .columns)) grew ∙ take-plus (u .columns) (u .sums) _) ∙ leaves-added (meaning u) (c .args .a) ws ok;
+      answers = answers-ok (multiplier u) (c .args .a) ws ok;
+      grows = ap with-totals (ap (take (u .columns)) grew ∙ take-plus (u .columns) (u .sums) _) ∙ leaves-added (multiplier u) (c .args .a) ws ok;
     }
