@@ -14,8 +14,9 @@ use Rattle.std.proofs.shelf.Signed.{ints}
 use Rattle.units.specs.Meaning.{Meaning, Lawful, Bounded, columns-of, reach, plus-each, add-check, added, after-add, cleared, total-at}
 use Rattle.units.proofs.Checks.{Accepted, when-accepted, added-lawful, cleared-lawful, total-read, total-there, total-bounded, unless-both, unless-map}
 use Rattle.units.proofs.Reach.{length-plus, getD-plus, plus-bounded, plus-more, getD-plus-past, zeros-bounded}
-use Rattle.layers.specs.Layer.{Event, Add, Clear, held, shown, after}
-use Rattle.layers.specs.Drain.{DrainState, drain-on, drain-made, drain-states, drain, fresh-drain, moved-up, room-made, handed-down, drain-add, drain-clear, Drain-unclamped, Drain-single}
+use Rattle.layers.specs.Layer.{held, shown, unit-after}
+use Rattle.layers.specs.Drain.{DrainState, drain-on, drain-made, drain-states, drain, fresh-drain, moved-up, room-made, handed-down, drain-add, drain-clear, drain-after, Drain-unclamped, Drain-single}
+use Rattle.layers.proofs.Events.{after-keeps, as-single}
 use Rattle.layers.proofs.Shown.{getD-shown, map-held, shown-lawful, shown-same}
 
 -- ---- lists of sums
@@ -202,25 +203,17 @@ add-kept s a ws kept =
       short = omega (arith, drain-room t a ws ok);
     })
 
-after-kept : (s : DrainState) (events : List Event) → Kept s → Kept (after drain-add drain-clear s events)
-after-kept s [] kept = kept
-after-kept s (Add a ws ∷ events) kept = after-kept (drain-add s a ws) events (add-kept s a ws kept)
-after-kept s (Clear ∷ events) kept = after-kept (drain-clear s) events (made-kept (s .below) (kept .sound .law))
+clear-kept : (s : DrainState) → Kept s → Kept (drain-clear s)
+clear-kept s kept = made-kept (s .below) (kept .sound .law)
 
 pub drain-unclamped : Drain-unclamped
 unfolding Drain-unclamped
 drain-unclamped below law events =
-    let kept = after-kept (drain-made below) events (made-kept below law) in
-    drain-shows (after drain-add drain-clear (drain-made below) events) (kept .sound) (kept .short)
-
-single : (s : DrainState) (events : List Event) → Kept s → drain (after drain-add drain-clear s events) ≡ after after-add cleared (drain s) events
-single s [] kept = refl
-single s (Add a ws ∷ events) kept =
-    single (drain-add s a ws) events (add-kept s a ws kept) ∙ ap (λ m. after after-add cleared m events) (drain-grows s (kept .sound) a ws)
-single s (Clear ∷ events) kept =
-    single (drain-clear s) events (made-kept (s .below) (kept .sound .law)) ∙ ap (λ m. after after-add cleared m events) (drain-cleared s)
+    let kept = after-keeps drain-add drain-clear Kept add-kept clear-kept (drain-made below) events (made-kept below law) in
+    drain-shows (drain-after below events) (kept .sound) (kept .short)
 
 pub drain-single : Drain-single
 unfolding Drain-single
 drain-single below law events =
-    single (drain-made below) events (made-kept below law) ∙ ap (λ m. after after-add cleared m events) (drain-new below)
+    as-single drain-add drain-clear Kept add-kept clear-kept drain (λ s a ws kept. drain-grows s (kept .sound) a ws) drain-cleared (drain-made below) events (made-kept below law)
+    ∙ ap (λ m. unit-after m events) (drain-new below)

@@ -16,8 +16,9 @@ use Rattle.std.proofs.shelf.Tests.{cases-lt}
 use Rattle.units.specs.Meaning.{Meaning, Lawful, Bounded, columns-of, reach, grown, add-check, added, after-add, cleared, total-at}
 use Rattle.units.proofs.Checks.{Accepted, T-from-true, when-accepted, added-lawful, cleared-lawful, total-there, unless-both, unless-map}
 use Rattle.units.proofs.Reach.{*ℤ-add, natAbs-sum, zeros-bounded}
-use Rattle.layers.specs.Layer.{Event, Add, Clear, held, after}
-use Rattle.layers.specs.Odd.{OddState, odd-on, odd-made, odd-of, half, odd-states, odd, fresh-odd, odd-handed-down, odd-add, odd-clear, Odd-unclamped, Odd-single}
+use Rattle.layers.specs.Layer.{held, unit-after}
+use Rattle.layers.specs.Odd.{OddState, odd-made, odd-of, half, odd-states, odd, fresh-odd, odd-handed-down, odd-add, odd-clear, odd-after, Odd-unclamped, Odd-single}
+use Rattle.layers.proofs.Events.{after-keeps, as-single}
 use Rattle.layers.proofs.Shown.{getD-shown, map-held, shown-lawful, shown-same}
 
 -- ---- numbers
@@ -194,25 +195,17 @@ add-kept s a ws kept =
       same-rows = ap (λ n. n + 1) (kept .same-rows);
     })
 
-after-kept : (s : OddState) (events : List Event) → Kept s → Kept (after odd-add odd-clear s events)
-after-kept s [] kept = kept
-after-kept s (Add a ws ∷ events) kept = after-kept (odd-add s a ws) events (add-kept s a ws kept)
-after-kept s (Clear ∷ events) kept = after-kept (odd-clear s) events (made-kept (s .below) (kept .sound .law))
+clear-kept : (s : OddState) → Kept s → Kept (odd-clear s)
+clear-kept s kept = made-kept (s .below) (kept .sound .law)
 
 pub odd-unclamped : Odd-unclamped
 unfolding Odd-unclamped
 odd-unclamped below law events =
-    let kept = after-kept (odd-made below) events (made-kept below law) in
-    odd-shows (after odd-add odd-clear (odd-made below) events) (kept .sound) (omega (arith, kept .same-rows, kept .sound .law .within))
-
-single : (s : OddState) (events : List Event) → Kept s → odd (after odd-add odd-clear s events) ≡ after after-add cleared (odd s) events
-single s [] kept = refl
-single s (Add a ws ∷ events) kept =
-    single (odd-add s a ws) events (add-kept s a ws kept) ∙ ap (λ m. after after-add cleared m events) (odd-grows s (kept .sound) a ws)
-single s (Clear ∷ events) kept =
-    single (odd-clear s) events (made-kept (s .below) (kept .sound .law)) ∙ ap (λ m. after after-add cleared m events) (odd-cleared s)
+    let kept = after-keeps odd-add odd-clear Kept add-kept clear-kept (odd-made below) events (made-kept below law) in
+    odd-shows (odd-after below events) (kept .sound) (omega (arith, kept .same-rows, kept .sound .law .within))
 
 pub odd-single : Odd-single
 unfolding Odd-single
 odd-single below law events =
-    single (odd-made below) events (made-kept below law) ∙ ap (λ m. after after-add cleared m events) (odd-new below)
+    as-single odd-add odd-clear Kept add-kept clear-kept odd (λ s a ws kept. odd-grows s (kept .sound) a ws) odd-cleared (odd-made below) events (made-kept below law)
+    ∙ ap (λ m. unit-after m events) (odd-new below)

@@ -7,9 +7,9 @@ use lib.Dec.{eqb}
 use lib.IntN.{ℤ, pos}
 use lib.ListN.{replicate}
 use Rattle.refusals.specs.Refusing.{unless}
-use Rattle.units.specs.Meaning.{Meaning, Lawful, plus-each, cleared, add-check, added, after-add}
+use Rattle.units.specs.Meaning.{Meaning, Lawful, plus-each, cleared, add-check, added}
 use Rattle.layers.specs.declared.Drain.{Drain}
-use Rattle.layers.specs.Layer.{Event, shown, after}
+use Rattle.layers.specs.Layer.{Event, shown, after, unit-after}
 
 -- the unit below, and what was moved up from it: the rows, and a sum for each column
 pub record DrainState : Type 0 where
@@ -61,10 +61,14 @@ drain-add s a ws = unless (add-check (drain s) a ws) s (handed-down (room-made s
 abbrev pub drain-clear : DrainState → DrainState
 drain-clear s = drain-made (s .below)
 
+-- a drain made on a unit, after a list of events
+abbrev pub drain-after : Meaning → List Event → DrainState
+drain-after below events = after drain-add drain-clear (drain-made below) events
+
 -- no list of calls makes a drain on a lawful unit show other than its own rows and sums plus those below
 unfoldable pub Drain-unclamped : Type 0
-Drain-unclamped = (below : Meaning) → Lawful below → (events : List Event) → let s = after drain-add drain-clear (drain-made below) events in drain s ≡ drain-states s
+Drain-unclamped = (below : Meaning) → Lawful below → (events : List Event) → drain (drain-after below events) ≡ drain-states (drain-after below events)
 
 -- after every list of calls a drain on a lawful unit means what a single unit would that has room for 65,536 rows
 unfoldable pub Drain-single : Type 0
-Drain-single = (below : Meaning) → Lawful below → (events : List Event) → drain (after drain-add drain-clear (drain-made below) events) ≡ after after-add cleared (fresh-drain below) events
+Drain-single = (below : Meaning) → Lawful below → (events : List Event) → drain (drain-after below events) ≡ unit-after (fresh-drain below) events

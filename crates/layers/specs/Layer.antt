@@ -2,7 +2,7 @@
 use mathlib.Core.List.{List, [], _∷_, map}
 use Prim.Native.Nat.{ℕ, suc, min}
 use lib.IntN.{ℤ, pos, negsuc, negℤ}
-use Rattle.units.specs.Meaning.{Meaning, reach}
+use Rattle.units.specs.Meaning.{Meaning, reach, after-add, cleared}
 
 -- a number, or the bound on its side where it lies past it
 abbrev pub held : ℕ → ℤ → ℤ
@@ -23,3 +23,7 @@ abbrev pub after : {S : Type 0} → (S → ℤ → List ℤ → S) → (S → S)
 after add clear s [] = s
 after add clear s (Add a ws ∷ events) = after add clear (add s a ws) events
 after add clear s (Clear ∷ events) = after add clear (clear s) events
+
+-- what a list of events makes of a unit with no layer
+abbrev pub unit-after : Meaning → List Event → Meaning
+unit-after = after after-add cleared

@@ -2,12 +2,11 @@
 use mathlib.Core.Path.{_≡_}
 use mathlib.Core.List.{List, map}
 use Prim.Native.Nat.{ℕ, _+_, _/_, max}
-use lib.ListN.{replicate}
 use lib.IntN.{ℤ, pos, negsuc, _+ℤ_, _-ℤ_}
 use Rattle.refusals.specs.Refusing.{unless}
-use Rattle.units.specs.Meaning.{Meaning, Lawful, columns-of, cleared, add-check, added, after-add}
+use Rattle.units.specs.Meaning.{Meaning, Lawful, cleared, add-check, added}
 use Rattle.layers.specs.declared.Odd.{Odd}
-use Rattle.layers.specs.Layer.{Event, shown, after}
+use Rattle.layers.specs.Layer.{Event, shown, after, unit-after}
 
 -- the unit below, the rows added, and the sum of their aligned numbers
 pub record OddState : Type 0 where
@@ -60,10 +59,14 @@ odd-add s a ws = unless (add-check (odd s) a ws) s (odd-handed-down s a ws)
 abbrev pub odd-clear : OddState → OddState
 odd-clear s = odd-made (s .below)
 
+-- an odd layer made on a unit, after a list of events
+abbrev pub odd-after : Meaning → List Event → OddState
+odd-after below events = after odd-add odd-clear (odd-made below) events
+
 -- no list of calls makes an odd layer on a lawful unit show other than the larger row count and the halved totals
 unfoldable pub Odd-unclamped : Type 0
-Odd-unclamped = (below : Meaning) → Lawful below → (events : List Event) → let s = after odd-add odd-clear (odd-made below) events in odd s ≡ odd-states s
+Odd-unclamped = (below : Meaning) → Lawful below → (events : List Event) → odd (odd-after below events) ≡ odd-states (odd-after below events)
 
 -- after every list of calls an odd layer on a lawful unit means what a single unit would that takes its weights itself
 unfoldable pub Odd-single : Type 0
-Odd-single = (below : Meaning) → Lawful below → (events : List Event) → odd (after odd-add odd-clear (odd-made below) events) ≡ after after-add cleared (fresh-odd below) events
+Odd-single = (below : Meaning) → Lawful below → (events : List Event) → odd (odd-after below events) ≡ unit-after (fresh-odd below) events

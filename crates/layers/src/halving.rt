@@ -1,5 +1,5 @@
-// The odd layer: a unit that takes only odd weights takes every weight through it, since 2w + 1 is odd. The layer
-// gets its total back by halving what the unit below has too much.
+// The odd layer: a unit that takes only odd weights takes every weight through it, since 2w + 1 is odd. As
+// a × (2w + 1) is twice a × w, and a, a total below is twice the layer's and the sum of all aligned numbers.
 ghost use mathlib.Core.Path.{_≡_};
 ghost use mathlib.Core.List.{map};
 ghost use Prim.Native.Nat.{_≤_};

@@ -6,7 +6,7 @@ use Prim.Native.Nat.{_+_}
 use lib.IntN.{_+ℤ_}
 use mir.Syntax.{w64}
 use mir.Val.{SFits}
-use Rattle.std.proofs.shelf.Signed.{toZ-ofZ}
+use Rattle.std.proofs.shelf.Signed.{ints, toZ-ofZ}
 use Rattle.refusals.specs.Refusing.{verdict}
 use Rattle.refusals.proofs.Refusing.{changed}
 use Rattle.units.specs.Meaning.{add-check, after-add}
@@ -36,7 +36,8 @@ ghost-self g c =
     let ok = accepted-at-ok (odd s) a ws (c .fits .a) (c .in-Continue-check .ensures tt) in
     let sum-fits : SFits w64 (d .sum) = search needs in
     let bounded = sum-bounded s sound a ws ok in
-    (omega (arith, odd-room s sound a ws ok, sound .law .few-rows), (rw (sum-read (d .sum) a (d .rows) sum-fits (c .fits .a) (d .short) bounded) bounded, tt))
+    let a-fits = c .fits .a in
+    (omega (arith, odd-room s sound a ws ok, sound .law .few-rows), (omega (arith, ints, bounded, ok .small), tt))
 
 pub returns : need.returns
 returns g c =
