@@ -5,5 +5,4 @@ use Rattle.alignment.proofs.checked.SharedExponent.least.Needs as need
 pub ghost-result : need.ghost-result
 ghost-result g c =
     let law = g .F·Format·met .lawful (c .args .format .now) in
-    let is = c .least-exponent .ensures in
-    (omega (arith, ints, law .low), (omega (arith, ints, law .ordered, law .high), tt))
+    (omega (arith, ints, law .low, law .ordered), (omega (arith, ints, law .ordered, law .high), tt))
