@@ -1,6 +1,5 @@
 -- A tile cut row by row.
 use mathlib.Core.Path.{_≡_, refl, sym, ap, _∙_}
-use mathlib.Core.Bool.{Bool, true, false}
 use mathlib.Core.List.{List, [], _∷_, _++_, map}
 use mathlib.Core.Logic.{_≢_}
 use borrow.Author.Count.{below-more}
@@ -10,16 +9,14 @@ use native.Mathlib.Nat.{le-refl}
 use lib.IntN.{ℤ, pos, negℤ, natAbs}
 use lib.ListN.{length, getD, set, take, drop}
 use lib.Pow.{pow-mono}
-use lib.Signed.{_≤ℤ_, ltZ}
+use lib.Signed.{_≤ℤ_}
 use Rattle.std.specs.declared.option.Option.{Option}
 use Rattle.std.specs.declared.option.Option.the-variants.{Some, None}
 use Rattle.std.proofs.shelf.Lists.{append-assoc, drop-more, getD-map, getD-set-same, getD-set-other, length-map, length-take-le, map-more, set-at, take-all}
 use Rattle.std.proofs.shelf.Results.{cases-at-some}
 use Rattle.std.proofs.shelf.Signed.{ints}
 use Rattle.refusals.specs.declared.Refusal.{Refusal}
-use Rattle.refusals.specs.declared.Refusal.the-variants.{AboveShared}
-use Rattle.refusals.specs.Refusing.{refuse, first}
-use Rattle.refusals.proofs.Refusing.{none-some}
+use Rattle.refusals.specs.Refusing.{first}
 use Rattle.formats.specs.Coding.{Decoded, Coding, Shaped, Lawful}
 use Rattle.alignment.specs.Cutting.{word-check, words-check, Small}
 use Rattle.alignment.specs.declared.cutting.Aligned.{Aligned}

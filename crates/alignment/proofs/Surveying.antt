@@ -1,17 +1,15 @@
 -- A tile's words one by one: those that are left decide.
-use mathlib.Core.Path.{_≡_, refl, sym, ap, subst, _∙_}
+use mathlib.Core.Path.{_≡_, refl, sym, ap, _∙_}
 use mathlib.Core.List.{List, [], _∷_, map}
-use mathlib.Core.Bool.{Bool, true, false}
 use mathlib.Core.Logic.{_⊎_, inl, inr, ⊎-elim}
-use Prim.Native.Nat.{ℕ, zero, suc, _+_, _≤_, _<_}
+use Prim.Native.Nat.{ℕ, suc, _+_, _≤_, _<_}
 use native.Mathlib.Omega.{arith}
-use lib.Dec.{ltb}
 use lib.ListN.{length, getD, drop}
 use lib.IntN.{ℤ, pos, negℤ}
 use lib.Signed.{_≤ℤ_, ltZ}
 use Rattle.std.specs.Numbers.{maxZ}
 use Rattle.std.specs.Options.{Cases}
-use Rattle.std.specs.shelf.Lists.{All, Has}
+use Rattle.std.specs.shelf.Lists.{Has}
 use Rattle.std.specs.declared.option.Option.{Option}
 use Rattle.std.specs.declared.option.Option.the-variants.{Some, None}
 use Rattle.std.proofs.shelf.Lists.{drop-more, drop-map, drop-all, length-map}
@@ -21,7 +19,7 @@ use Rattle.refusals.specs.declared.Refusal.{Refusal}
 use Rattle.refusals.specs.declared.Refusal.the-variants.{NotFinite, TooManyWords}
 use Rattle.refusals.specs.Refusing.{refuse, first}
 use Rattle.formats.specs.Coding.{Decoded, Coding, Shaped, Lawful}
-use Rattle.alignment.specs.Tile.{Tile, length-check, not-finite, survey-check, largest, Largest}
+use Rattle.alignment.specs.Tile.{Tile, length-check, not-finite, largest, Largest}
 
 -- ---- the length
 module _ {W : Type 0} (f : W → Option Decoded) (ws : List W) where

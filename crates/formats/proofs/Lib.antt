@@ -1,3 +1,4 @@
 pub mod Interchange
 pub mod Agreement
 pub mod Widening
+pub mod Counting

@@ -1,5 +1,5 @@
 -- A bfloat16 word is the upper half of a binary32 word of the same value.
-use mathlib.Core.Path.{_≡_, refl, sym, ap, _∙_}
+use mathlib.Core.Path.{_≡_, refl, ap}
 use mathlib.Core.Bool.{Bool, true, false, cond}
 use Prim.Native.Nat.{ℕ, _+_, _*_, _/_, _%_, _^_}
 use native.Mathlib.Omega.{arith}
@@ -8,7 +8,7 @@ use lib.Dec.{eqb}
 use Rattle.std.specs.declared.option.Option.the-variants.{Some, None}
 use Rattle.std.proofs.shelf.Signed.{ints}
 use Rattle.formats.specs.Agreement.{Widened}
-use Rattle.formats.specs.Interchange.{fraction, field, sign, number, interchange}
+use Rattle.formats.specs.Interchange.{fraction, field, sign, interchange}
 
 same-field : (w : ℕ) → field 8 23 (w * 2 ^ 16) ≡ field 8 7 w
 same-field w = omega arith

@@ -1,12 +1,12 @@
 -- Fixed8: a two's complement byte, counted in units of 2^q.
-use mathlib.Core.Bool.{cond, not, _&&_}
+use mathlib.Core.Bool.{cond}
 use Prim.Native.Nat.{ℕ, _-_}
 use lib.IntN.{ℤ, pos, negsuc, negℤ}
 use lib.Dec.{ltb}
 use lib.Signed.{ltZ}
 use mathlib.Core.Bool.{_||_}
 use Rattle.std.specs.declared.option.Option.{Option}
-use Rattle.std.specs.declared.option.Option.the-variants.{Some, None}
+use Rattle.std.specs.declared.option.Option.the-variants.{Some}
 use Rattle.refusals.specs.declared.Refusal.{Refusal}
 use Rattle.refusals.specs.declared.Refusal.the-variants.{PowerRange}
 use Rattle.refusals.specs.Refusing.{refuse}

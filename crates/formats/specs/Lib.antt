@@ -2,3 +2,4 @@ pub mod Coding
 pub mod Interchange
 pub mod Fixed
 pub mod Agreement
+pub mod Counting

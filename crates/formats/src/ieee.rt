@@ -4,6 +4,7 @@ ghost use Prim.Native.Nat.{_*_, _^_};
 ghost use lib.Ieee.{binary32, ofBits};
 ghost use Rattle.formats.specs.Interchange.{coding, interchange};
 ghost use Rattle.formats.specs.Agreement.{Same, Widened};
+ghost use Rattle.formats.specs.Counting.{Words-count-up};
 use crate::Format;
 use crate::layout::Layout;
 
@@ -107,3 +108,8 @@ pub impl Format for Binary32 as Binary32Format {
         SINGLE.decode(word)
     }
 }
+
+// In every layout zero comes first, each next word is greater by one in the last place, and the sign bit turns the sign.
+pub fn words_count_up()
+    ensures { λ _. ⌜ Words-count-up ⌝ }
+{}

@@ -1,6 +1,6 @@
 // The binary layouts of IEEE 754: a sign bit, an exponent field and a fraction, from the highest bit down.
 ghost use mathlib.Core.Path.{_≡_};
-ghost use Prim.Native.Nat.{ℕ, _+_, _%_, _^_, _<_, _≤_};
+ghost use Prim.Native.Nat.{_+_, _%_, _^_, _<_, _≤_};
 ghost use Rattle.formats.specs.Interchange.{interchange, coding, exponent};
 
 #[derive(Clone, Copy)]

@@ -14,6 +14,7 @@ pub use ieee::Binary16;
 pub use ieee::Binary16Format;
 pub use ieee::Binary32;
 pub use ieee::Binary32Format;
+pub use ieee::words_count_up;
 
 pub trait Format {
     type Word: Copy;

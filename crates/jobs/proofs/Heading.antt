@@ -1,16 +1,16 @@
 -- The header of a job that was read.
-use mathlib.Core.Path.{_≡_, sym, ap, subst, _∙_}
+use mathlib.Core.Path.{_≡_, sym, ap, _∙_}
 use mathlib.Core.List.{List}
 use denote.Ref.{now}
 use Prim.Native.Nat.{ℕ}
 use lib.IntN.{ℤ}
 use lib.ListN.{length}
-use Rattle.std.specs.declared.option.Option.the-variants.{Some, None}
+use Rattle.std.specs.declared.option.Option.the-variants.{Some}
 use Rattle.std.specs.declared.result.Result.the-variants.{Ok, Err}
 use Rattle.refusals.specs.declared.Refusal.{Refusal}
-use Rattle.refusals.specs.Refusing.{answer, first, Made}
+use Rattle.refusals.specs.Refusing.{answer, Made}
 use Rattle.refusals.proofs.Refusing.{first-refuses, first-passes, made, unmade, was-made, was-refused, when-ok, when-err}
-use Rattle.alignment.specs.Tile.{Tile, largest}
+use Rattle.alignment.specs.Tile.{largest}
 use Rattle.jobs.specs.declared.job.Job.{Job}
 use Rattle.jobs.specs.declared.plan.Plan.{Plan}
 use Rattle.jobs.specs.Job.{job-check, Job-of}

@@ -1,6 +1,6 @@
 // What a trailer asks for, once its codes are known.
 ghost use mathlib.Core.Path.{_≡_};
-ghost use Prim.Native.Nat.{ℕ, _^_, _<_};
+ghost use Prim.Native.Nat.{_^_, _<_};
 ghost use Rattle.std.specs.declared.option.Option.the-variants.{Some};
 ghost use Rattle.refusals.specs.Refusing.{Made};
 ghost use Rattle.jobs.specs.Plan.{plan-of, plan-check, activation-bytes, weight-bytes};

@@ -1,6 +1,5 @@
 // Reads a job out of a file's bytes, of which it copies none.
-ghost use mathlib.Core.Path.{_≡_};
-ghost use Prim.Native.Nat.{ℕ, _^_, _<_, _≤_};
+ghost use Prim.Native.Nat.{_^_, _<_, _≤_};
 ghost use lib.ListN.{length};
 ghost use Rattle.refusals.specs.Refusing.{Made};
 ghost use Rattle.jobs.specs.Job.{section-check, Section-of, job-check, Job-of};

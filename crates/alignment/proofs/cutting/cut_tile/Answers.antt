@@ -1,9 +1,8 @@
 use mathlib.Core.Path.{_≡_, refl, sym, ap, subst, _∙_}
 use mathlib.Core.List.{map, _++_}
-use Prim.Native.Nat.{_+_, _≤_, _<_}
+use Prim.Native.Nat.{_+_, _<_}
 use native.Mathlib.Omega.{arith}
-use lib.ListN.{length, set, take, drop}
-use Rattle.std.specs.declared.option.Option.the-variants.{None}
+use lib.ListN.{length, set, drop}
 use Rattle.std.specs.declared.result.Result.the-variants.{Err}
 use Rattle.std.proofs.shelf.Lists.{length-map, length-set}
 use Rattle.std.proofs.shelf.Results.{err-from-errBy}

@@ -1,6 +1,5 @@
-use Prim.Native.Nat.{_/_, _^_}
+use Prim.Native.Nat.{_^_}
 use native.Mathlib.Omega.{arith}
-use borrow.Author.Needs.{needs}
 use Rattle.std.proofs.shelf.Bits.{mul-le}
 use Rattle.jobs.proofs.plan.Plan.weight_bytes.Needs as need
 
