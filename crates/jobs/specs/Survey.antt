@@ -2,13 +2,14 @@
 use mathlib.Core.Path.{_≡_}
 use mathlib.Core.List.{List, [], _∷_}
 use Prim.Native.Nat.{ℕ, _+_, _%_}
-use lib.IntN.{pos}
+use lib.IntN.{ℤ, pos}
 use lib.ListN.{take, drop}
 use Rattle.std.specs.declared.option.Option.{Option}
 use Rattle.std.specs.declared.option.Option.the-variants.{Some, None}
+use Rattle.std.specs.declared.result.Result.{Result}
 use Rattle.refusals.specs.declared.Refusal.{Refusal}
 use Rattle.refusals.specs.declared.Refusal.the-variants.{NotFinite}
-use Rattle.refusals.specs.Refusing.{first}
+use Rattle.refusals.specs.Refusing.{first, answer}
 use Rattle.formats.specs.Coding.{Coding}
 use Rattle.formats.specs.Fixed.{fixed}
 use Rattle.formats.specs.Interchange.{coding}
@@ -36,11 +37,19 @@ tiles-check row [] = None
 tiles-check row (None ∷ ts) = Some (NotFinite (row % 128))
 tiles-check row (Some d ∷ ts) = tiles-check (row + 1) ts
 
--- the words of the activations, one for each row
-abbrev pub activations-tile : Plan → List ℕ → Tile
-activations-tile p bytes = tile-of (coding-of (p .format)) (words-in (word-bytes (p .format)) little (p .rows) bytes)
+-- what a survey of all words answers: the larger of the format's least exponent and every exponent, if all words are finite
+abbrev pub surveyed : {W : Type 0} → Coding W → List W → Result ℤ Refusal
+surveyed f ws = answer (tiles-check 0 (tile-of f ws)) (largest (f .least) (tile-of f ws))
 
--- the same, out of the file
+-- the words of the activations, one for each row
+abbrev pub activation-words : Plan → List ℕ → List ℕ
+activation-words p bytes = words-in (word-bytes (p .format)) little (p .rows) bytes
+
+-- the same, decoded
+abbrev pub activations-tile : Plan → List ℕ → Tile
+activations-tile p bytes = tile-of (coding-of (p .format)) (activation-words p bytes)
+
+-- those that the file holds
 abbrev pub file-tile : List ℕ → Plan → Tile
 file-tile file p = activations-tile p (take (activation-bytes p) (drop (trailer-of file .activations) file))
 

@@ -3,11 +3,10 @@ ghost use mathlib.Core.Path.{_≡_};
 ghost use Prim.Native.Nat.{_*_};
 ghost use lib.ListN.{length};
 ghost use Rattle.std.specs.Vec.{made};
-ghost use Rattle.refusals.specs.Refusing.{answer, Made};
-ghost use Rattle.alignment.specs.Tile.{tile-of, largest};
+ghost use Rattle.refusals.specs.Refusing.{Made};
 ghost use Rattle.jobs.specs.Words.{words-in};
 ghost use Rattle.jobs.specs.Plan.{activation-bytes};
-ghost use Rattle.jobs.specs.Survey.{coding-of, activations-tile, tiles-check, header-check, Header-of};
+ghost use Rattle.jobs.specs.Survey.{coding-of, activation-words, surveyed, header-check, Header-of};
 use crate::codes::FormatCode;
 use crate::job::Job;
 use crate::words::ByteWord;
@@ -33,7 +32,7 @@ use std::alloc::Global;
 
 // The larger of the format's least exponent and every exponent of the words, surveyed tile by tile.
 fn survey_tiles<F: Format>(format: &F, words: &[F::Word]) -> Result<i32, Refusal>
-    ensures { λ r. ⌜ r ≡ answer (tiles-check 0 (tile-of (F·Format .meaning (now (format .entry))) (now (words .entry)))) (largest (F·Format .meaning (now (format .entry)) .least) (tile-of (F·Format .meaning (now (format .entry))) (now (words .entry)))) ⌝ }
+    ensures { λ r. ⌜ r ≡ surveyed (F·Format .meaning (now (format .entry))) (now (words .entry)) ⌝ }
 {
     let mut shared = SharedExponent::least(format);
     for tile in words.chunks(TILE_WORDS) {
@@ -50,7 +49,7 @@ fn survey_bytes<W: Word + Drop, F: Format<Word = W>>(
     rows: u16,
 ) -> Result<Result<i32, Refusal>, AllocError>
     requires { ⌜ length (now bytes) ≡ rows * W·Word .width ⌝ }
-    ensures { λ r. ⌜ made r (λ x. x ≡ answer (tiles-check 0 (tile-of (F·Format .meaning (now (format .entry))) (words-in (W·Word .width) (W·Word .spelled) rows (now (bytes .entry))))) (largest (F·Format .meaning (now (format .entry)) .least) (tile-of (F·Format .meaning (now (format .entry))) (words-in (W·Word .width) (W·Word .spelled) rows (now (bytes .entry)))))) ⌝ }
+    ensures { λ r. ⌜ made r (λ x. x ≡ surveyed (F·Format .meaning (now (format .entry))) (words-in (W·Word .width) (W·Word .spelled) rows (now (bytes .entry)))) ⌝ }
 {
     let words = words_of(heap, bytes, usize::from(rows))?;
     Ok(survey_tiles(format, words.as_slice()))
@@ -59,7 +58,7 @@ fn survey_bytes<W: Word + Drop, F: Format<Word = W>>(
 // The same of a job's activations.
 fn survey_job(heap: Global, job: &Job) -> Result<Result<i32, Refusal>, AllocError>
     requires { ⌜ length (now (now job .activations .bytes)) ≡ activation-bytes (now job .plan) ⌝ }
-    ensures { λ r. ⌜ made r (λ x. x ≡ answer (tiles-check 0 (activations-tile (now (job .entry) .plan) (now (now (job .entry) .activations .bytes)))) (largest (coding-of (now (job .entry) .plan .format) .least) (activations-tile (now (job .entry) .plan) (now (now (job .entry) .activations .bytes))))) ⌝ }
+    ensures { λ r. ⌜ made r (λ x. x ≡ surveyed (coding-of (now (job .entry) .plan .format)) (activation-words (now (job .entry) .plan) (now (now (job .entry) .activations .bytes)))) ⌝ }
 {
     let bytes = job.activations.bytes;
     let rows = job.plan.rows;
