@@ -14,7 +14,7 @@ use lib.Pow.{pow-pos, pow-add, pow-mono}
 use Rattle.std.proofs.shelf.Signed.{ints}
 use Rattle.std.proofs.shelf.Tests.{cases-lt, ne-eqb}
 use Rattle.sums.specs.Terms.{value, cut, lost, step-of}
-use Rattle.sums.proofs.Integers.{abs-product}
+use Rattle.integers.proofs.Laws.{abs-product}
 use Rattle.alignment.specs.declared.cutting.Aligned.{Aligned}
 use Rattle.formats.specs.Coding.{Decoded}
 

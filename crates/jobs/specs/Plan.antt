@@ -6,8 +6,10 @@ use Rattle.std.specs.Options.{isSome}
 use Rattle.std.specs.declared.option.Option.{Option}
 use Rattle.std.specs.declared.option.Option.the-variants.{Some, None}
 use Rattle.refusals.specs.declared.Refusal.{Refusal}
-use Rattle.refusals.specs.declared.Refusal.the-variants.{ColumnCount, ExtraBits, UnknownCode}
+use Rattle.refusals.specs.declared.Refusal.the-variants.{UnknownCode}
+use Rattle.refusals.specs.Columns.{columns-check}
 use Rattle.refusals.specs.Refusing.{refuse, first}
+use Rattle.alignment.specs.Tile.{extra-check}
 use Rattle.sheets.specs.Code.{coded, sheet-codes, sheet-number, byte-length}
 use Rattle.jobs.specs.declared.plan.Plan.{Plan}
 use Rattle.jobs.specs.declared.trailer.Trailer.{Trailer}
@@ -32,8 +34,8 @@ unknown t = not (eqb (t .mark) 0x54) || not (isSome (plan-of t)) || ltb 4096 (t 
 abbrev pub plan-check : Trailer → Option Refusal
 plan-check t =
     first (refuse (unknown t) UnknownCode)
-    (first (refuse (eqb (t .columns) 0 || ltb 16 (t .columns)) ColumnCount)
-    (refuse (ltb 12 (t .extra)) ExtraBits))
+    (first (columns-check (t .columns))
+    (extra-check (t .extra)))
 
 -- a word for each row
 abbrev pub activation-bytes : Plan → ℕ

@@ -15,7 +15,8 @@ use Rattle.std.proofs.shelf.Lists.{length-map, getD-map, getD-past}
 use Rattle.std.proofs.shelf.Tests.{cases-lt}
 use Rattle.units.specs.Meaning.{Meaning, Lawful, Bounded, columns-of, reach, grown, add-check, added, after-add, cleared, total-at}
 use Rattle.units.proofs.Checks.{Accepted, T-from-true, when-accepted, added-lawful, cleared-lawful, total-there, unless-both, unless-map}
-use Rattle.units.proofs.Reach.{*ℤ-add, natAbs-sum, zeros-bounded}
+use Rattle.integers.proofs.Laws.{abs-sum, product-sum}
+use Rattle.units.proofs.Reach.{zeros-bounded}
 use Rattle.layers.specs.Layer.{held, unit-after}
 use Rattle.layers.specs.Odd.{OddState, odd-made, odd-of, half, odd-states, odd, fresh-odd, odd-handed-down, odd-add, odd-clear, odd-after, Odd-unclamped, Odd-single}
 use Rattle.layers.proofs.Events.{after-keeps, as-single}
@@ -25,7 +26,7 @@ use Rattle.layers.proofs.Shown.{getD-shown, map-held, shown-lawful, shown-same
 -- a × (2w + 1) is twice a × w, and a
 odd-product : (a w : ℤ) → a *ℤ odd-of w ≡ a *ℤ w +ℤ a *ℤ w +ℤ a
 odd-product a w =
-    *ℤ-add a (w +ℤ w) (pos 1) ∙ ap (λ p. p +ℤ a *ℤ pos 1) (*ℤ-add a w w) ∙ (omega (arith, ints))
+    product-sum a (w +ℤ w) (pos 1) ∙ ap (λ p. p +ℤ a *ℤ pos 1) (product-sum a w w) ∙ (omega (arith, ints))
 
 half-within : (z : ℤ) → ((half z +ℤ half z) ≤ℤ z) × (z ≤ℤ (half z +ℤ half z +ℤ pos 1))
 half-within (pos n) = (omega (arith, ints), omega (arith, ints))
@@ -138,7 +139,7 @@ module _ (s : OddState) (sound : Sound s) (a : ℤ) (ws : List ℤ) (ok : Accept
       (cases-lt c (length ws))
 
   pub sum-bounded : natAbs (s .sum +ℤ a) ≤ (s .rows + 1) * 2 ^ 36
-  sum-bounded = omega (arith, ints, natAbs-sum (s .sum) a, ok .small, sound .bounded)
+  sum-bounded = omega (arith, ints, abs-sum (s .sum) a, ok .small, sound .bounded)
 
   pub odd-room : s .rows < s .below .limit
   odd-room = omega (arith, ok .room)

@@ -11,11 +11,11 @@ use Rattle.std.proofs.shelf.Signed.{ints, clamps}
 use Rattle.std.specs.Numbers.{maxZ, minZ}
 use Rattle.units.specs.Meaning.{Meaning, Lawful, Bounded, columns-of, reach}
 use Rattle.layers.specs.Layer.{held, shown}
-use Rattle.units.proofs.Reach.{natAbs-neg}
+use Rattle.integers.proofs.Laws.{abs-neg}
 
 natAbs-held : (n : ℕ) (z : ℤ) → natAbs (held n z) ≤ n
 natAbs-held n (pos k) = omega arith
-natAbs-held n (negsuc k) = omega (arith, natAbs-neg (min n (suc k)))
+natAbs-held n (negsuc k) = omega (arith, abs-neg (min n (suc k)))
 
 pub held-same : (n : ℕ) (z : ℤ) → natAbs z ≤ n → held n z ≡ z
 held-same n (pos k) h = ap pos (omega arith)

@@ -16,7 +16,8 @@ use Rattle.std.proofs.shelf.Tests.{cond-both, and-parts, leb-true, eqb-true, eq
 use Rattle.units.specs.Meaning.{Bounded, reach, plus-each, grown}
 use Rattle.planes.specs.Columns.{Eights, EachBounded, Signs-weigh, takes-odd, code, signed, signs, weigh, spread}
 use Rattle.units.proofs.Checks.{true-from-T}
-use Rattle.units.proofs.Reach.{*ℤ-add, natAbs-sum, length-plus, plus-bounded, plus-more, getD-plus-past, zeros-bounded}
+use Rattle.integers.proofs.Laws.{abs-sum, product-sum}
+use Rattle.units.proofs.Reach.{length-plus, plus-bounded, plus-more, getD-plus-past, zeros-bounded}
 
 -- ---- what the sums weigh
 pub weigh-plus : (xs ys : List ℤ) → length xs ≡ length ys → weigh (plus-each xs ys) ≡ weigh xs +ℤ weigh ys
@@ -35,8 +36,8 @@ weigh-scaled (suc k) a n =
     let x = weigh (signs k (pos 1) (n / 2)) in
     let first = by-bit (eqb (n % 2) 1) a in
     let rest = weigh-scaled k a (n / 2) in
-    let both = *ℤ-add a (signed (pos 1) n) (x +ℤ x) in
-    let twice = *ℤ-add a x x in
+    let both = product-sum a (signed (pos 1) n) (x +ℤ x) in
+    let twice = product-sum a x x in
     ap (λ s. s +ℤ (weigh (signs k a (n / 2)) +ℤ weigh (signs k a (n / 2)))) first
     ∙ ap (λ y. a *ℤ signed (pos 1) n +ℤ (y +ℤ y)) rest
     ∙ ap (λ y. a *ℤ signed (pos 1) n +ℤ y) (sym twice)
@@ -83,8 +84,8 @@ weigh-most : (n : ℕ) (ss : List ℤ) → Bounded n ss → natAbs (weigh ss) �
 weigh-most n [] b = omega arith
 weigh-most n (s ∷ ss) b =
     let rest = weigh-most n ss (λ c. b (suc c)) in
-    let twice = natAbs-sum (weigh ss) (weigh ss) in
-    omega (arith, b 0, rest, twice, natAbs-sum s (weigh ss +ℤ weigh ss))
+    let twice = abs-sum (weigh ss) (weigh ss) in
+    omega (arith, b 0, rest, twice, abs-sum s (weigh ss +ℤ weigh ss))
 
 pub weigh-bounded : (n : ℕ) (ss : List ℤ) → length ss ≡ 8 → Bounded n ss → natAbs (weigh ss) ≤ 255 * n
 weigh-bounded n ss eight b = let top = subst (λ k. natAbs (weigh ss) ≤ most k n) eight (weigh-most n ss b) in omega (arith, top)

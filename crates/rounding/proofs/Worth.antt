@@ -1,25 +1,20 @@
 -- A decoded number that is total times 2 to the power step, and its amount.
-use mathlib.Core.Path.{_≡_, refl, sym, ap, _∙_}
+use mathlib.Core.Path.{_≡_, sym, ap, _∙_}
 use mathlib.Core.Bool.{cond}
 use Prim.Native.Nat.{ℕ, _*_, _^_}
 use native.Mathlib.Nat.{one-mul, mul-assoc, mul-right-comm, eq-of-mul-eq-mul-right}
-use native.Mathlib.Omega.{arith}
 use lib.IntN.{ℤ, pos, negsuc, _*ℤ_, negℤ, natAbs}
 use lib.Signed.{_≤ℤ_}
 use lib.Pow.{pow-pos}
 use lib.Ieee.{up, down}
 use lib.Ieee.Fits.{down-pos}
-use Rattle.std.proofs.shelf.Signed.{ints}
+use Rattle.integers.proofs.Laws.{abs-product}
 use Rattle.formats.specs.Coding.{Decoded}
 use Rattle.rounding.specs.Word.{below-zero}
 use Rattle.rounding.specs.Nearest.{amount, exactly, Worth}
 use Rattle.rounding.proofs.Fields.{amount-worth}
 
 -- ---- the sign aside
-size-of-product : (z : ℤ) (a : ℕ) → natAbs (z *ℤ pos a) ≡ natAbs z * a
-size-of-product (pos n) a = refl
-size-of-product (negsuc n) a = omega (arith, ints)
-
 signed-product : (total : ℤ) (a b : ℕ) → a ≡ natAbs total * b → cond (below-zero total) (negsuc 0) (pos 1) *ℤ pos a ≡ total *ℤ pos b
 signed-product (pos n) a b h = ap pos (one-mul a ∙ h)
 signed-product (negsuc n) a b h = ap (λ (x : ℕ). negℤ (pos x)) (one-mul a ∙ h)
@@ -33,9 +28,9 @@ module _ (total step : ℤ) (d : Decoded) (low : negℤ (pos 149) ≤ℤ d .2) w
       let same : d .1 * up e * down step ≡ natAbs total * (up step * down e) =
       sym (one-mul (d .1 * up e * down step))
       ∙ ap (λ (x : ℕ). x * (d .1 * up e * down step)) (sym unit)
-      ∙ sym (size-of-product (d .0) (d .1 * up e * down step))
+      ∙ sym (abs-product (d .0) (pos (d .1 * up e * down step)))
       ∙ ap natAbs worth
-      ∙ size-of-product total (up step * down e) in
+      ∙ abs-product total (pos (up step * down e)) in
       eq-of-mul-eq-mul-right (down e) (down-pos e) (amount d * down step) (exactly total step)
       (mul-right-comm (amount d) (down step) (down e)
       ∙ ap (λ (x : ℕ). x * down step) (sym (amount-worth (d .1) e low))

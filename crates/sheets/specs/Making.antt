@@ -5,7 +5,8 @@ use lib.Dec.{ltb, eqb}
 use Rattle.std.specs.declared.option.Option.{Option}
 use Rattle.std.specs.declared.option.Option.the-variants.{None}
 use Rattle.refusals.specs.declared.Refusal.{Refusal}
-use Rattle.refusals.specs.declared.Refusal.the-variants.{TooManyRows, ColumnCount, PlaneCount, ByteLength}
+use Rattle.refusals.specs.declared.Refusal.the-variants.{TooManyRows, PlaneCount, ByteLength}
+use Rattle.refusals.specs.Columns.{columns-check}
 use Rattle.refusals.specs.Refusing.{refuse, first}
 use Rattle.sheets.specs.declared.code.SheetCode.{SheetCode}
 use Rattle.sheets.specs.declared.code.SheetCode.the-variants.{Byte, Nibble, Planes}
@@ -13,7 +14,7 @@ use Rattle.sheets.specs.Code.{byte-length}
 
 -- at most 128 rows, and then 1 to 16 columns
 abbrev pub extent-check : ℕ → ℕ → Option Refusal
-extent-check rows columns = first (refuse (ltb 128 rows) TooManyRows) (refuse (eqb columns 0 || ltb 16 columns) ColumnCount)
+extent-check rows columns = first (refuse (ltb 128 rows) TooManyRows) (columns-check columns)
 
 -- 1 to 8 planes, where there are planes
 abbrev pub planes-check : SheetCode → Option Refusal

@@ -13,7 +13,7 @@ use Rattle.std.specs.shelf.Lists.{All}
 use Rattle.std.proofs.shelf.Tests.{eqb-true}
 use Rattle.sums.specs.Terms.{Term, cut, lost, loss, total, slack, exact}
 use Rattle.sums.specs.Laws.{Tells, Harmless}
-use Rattle.sums.proofs.Integers.{abs-sum, abs-product, sum-product, product-swap, quotient-rest, abs-rest}
+use Rattle.integers.proofs.Laws.{abs-sum, abs-product, sum-product, product-swap, quotient-rest, abs-rest}
 
 -- what a term's cut leaves out is its rest times its weight
 left-out : (s : ℕ) (v w : ℤ) → v *ℤ w ≡ (cut s v *ℤ w) *ℤ pos s +ℤ remZ v (pos s) *ℤ w

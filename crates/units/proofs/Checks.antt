@@ -20,10 +20,11 @@ use Rattle.std.proofs.shelf.Tests.{cond-true, cond-false, cases-lt, not-false, 
 use Rattle.std.proofs.shelf.Ways.{tells}
 use Rattle.refusals.specs.declared.Refusal.{Refusal}
 use Rattle.refusals.specs.declared.Refusal.the-variants.{WeightNotTaken, NoSuchColumn}
+use Rattle.refusals.specs.Columns.{columns-check}
 use Rattle.refusals.specs.Refusing.{refuse, verdict, unless}
 use Rattle.refusals.proofs.Refusing.{none-some, refused, accepted, changed, when-ok, when-err, passed}
 use Rattle.units.proofs.Reach.{length-plus, grown-bounded, zeros-bounded}
-use Rattle.units.specs.Meaning.{Meaning, Lawful, Bounded, columns-of, untaken, add-check, added, after-add, cleared, column-check, columns-check, total-at, reach}
+use Rattle.units.specs.Meaning.{Meaning, Lawful, Bounded, columns-of, untaken, add-check, added, after-add, cleared, column-check, total-at, reach}
 
 -- a test that is true, as a fact and as an equation
 pub true-from-T : (b : Bool) → T b → b ≡ true

@@ -3,11 +3,10 @@ use mathlib.Core.Path.{_≡_, refl, sym, ap}
 use mathlib.Core.List.{List, [], _∷_, map}
 use Prim.Native.Nat.{ℕ, zero, suc, _+_, _*_, _^_, _<_, _≤_}
 use native.Mathlib.Omega.{arith}
-use native.Mathlib.Nat.{le-of-suc-le-suc, add-mul}
-use borrow.Author.Differences.{up, down, sum-is}
+use native.Mathlib.Nat.{le-of-suc-le-suc}
 use native.Mathlib.Numerals.{add-one}
 use lib.ListN.{length, getD, take, set, replicate}
-use lib.IntN.{ℤ, pos, negsuc, natAbs, negℤ, _+ℤ_, _*ℤ_, +ℤ-idr, *ℤ-zero}
+use lib.IntN.{ℤ, pos, natAbs, _+ℤ_, _*ℤ_, +ℤ-idr, *ℤ-zero}
 use mir.Syntax.{w64}
 use mir.Val.{SFits}
 use Rattle.std.proofs.shelf.Signed.{ints}
@@ -15,31 +14,13 @@ use Rattle.std.proofs.shelf.Bits.{mul-le}
 use Rattle.std.proofs.shelf.Tests.{cases-lt}
 use Rattle.std.proofs.shelf.Lists.{getD-past, length-map, take-map}
 use mathlib.Core.Logic.{⊎-elim}
+use Rattle.integers.proofs.Laws.{abs-product, abs-sum}
 use Rattle.units.specs.Meaning.{Bounded, reach, plus-each, grown}
 
 -- ---- one number
-pub natAbs-neg : (n : ℕ) → natAbs (negℤ (pos n)) ≡ n
-natAbs-neg zero = refl
-natAbs-neg (suc n) = refl
-
-pub natAbs-product : (a w : ℤ) → natAbs (a *ℤ w) ≡ natAbs a * natAbs w
-natAbs-product (pos a) (pos w) = refl
-natAbs-product (pos a) (negsuc w) = natAbs-neg (a * suc w)
-natAbs-product (negsuc a) (pos w) = natAbs-neg (suc a * w)
-natAbs-product (negsuc a) (negsuc w) = refl
-
-pub natAbs-sum : (x y : ℤ) → natAbs (x +ℤ y) ≤ natAbs x + natAbs y
-natAbs-sum x y = omega (arith, ints)
-
-pub *ℤ-add : (a x y : ℤ) → a *ℤ (x +ℤ y) ≡ a *ℤ x +ℤ a *ℤ y
-*ℤ-add a x y =
-    let ups = simp add-mul at (ap (λ n. n * up a) (sum-is x y)) in
-    let downs = simp add-mul at (ap (λ n. n * down a) (sum-is x y)) in
-    omega (arith, ints, ups, downs)
-
 -- what one row adds
 pub row-reach : (a w : ℤ) → natAbs a < 2 ^ 36 → natAbs w ≤ 255 → natAbs (a *ℤ w) ≤ 255 * 2 ^ 36
-row-reach a w small weight = omega (arith, natAbs-product a w, mul-le (natAbs a) (natAbs w) (2 ^ 36) 255 (omega arith) weight)
+row-reach a w small weight = omega (arith, abs-product a w, mul-le (natAbs a) (natAbs w) (2 ^ 36) 255 (omega arith) weight)
 
 pub product-fits : (a w : ℤ) → natAbs a < 2 ^ 36 → natAbs w ≤ 255 → SFits w64 (a *ℤ w)
 product-fits a w small weight = let r = row-reach a w small weight in omega (arith, ints)
@@ -110,7 +91,7 @@ getD-grown-past ts a ws i = rw (← take-map (λ w. a *ℤ w) i ws) (getD-plus-p
 pub plus-bounded : (m n : ℕ) (xs ys : List ℤ) → Bounded m xs → Bounded n ys → Bounded (m + n) (plus-each xs ys)
 plus-bounded m n xs ys low high c =
     ⊎-elim
-    (λ h. rw (getD-plus xs ys c h) (omega (arith, natAbs-sum (getD xs c (pos 0)) (getD ys c (pos 0)), low c, high c)))
+    (λ h. rw (getD-plus xs ys c h) (omega (arith, abs-sum (getD xs c (pos 0)) (getD ys c (pos 0)), low c, high c)))
     (λ h. rw (getD-past (plus-each xs ys) c (pos 0) (omega (arith, length-plus xs ys))) (omega arith))
     (cases-lt c (length xs))
 

@@ -1,6 +1,6 @@
 -- What a unit means, what its calls do to that meaning, and when they refuse.
 use mathlib.Core.List.{List, [], _∷_, map}
-use mathlib.Core.Bool.{Bool, cond, not, _||_}
+use mathlib.Core.Bool.{Bool, cond, not}
 use Prim.Native.Nat.{ℕ, _+_, _*_, _^_, _≤_}
 use lib.ListN.{length, getD, replicate}
 use lib.IntN.{ℤ, pos, _+ℤ_, _*ℤ_, natAbs}
@@ -9,7 +9,7 @@ use Rattle.std.specs.declared.option.Option.{Option}
 use Rattle.std.specs.declared.option.Option.the-variants.{Some, None}
 use Rattle.std.specs.declared.result.Result.{Result}
 use Rattle.refusals.specs.declared.Refusal.{Refusal}
-use Rattle.refusals.specs.declared.Refusal.the-variants.{ColumnCount, WeightCount, RowLimit, NumberTooLarge, WeightNotTaken, NoSuchColumn}
+use Rattle.refusals.specs.declared.Refusal.the-variants.{WeightCount, RowLimit, NumberTooLarge, WeightNotTaken, NoSuchColumn}
 use Rattle.refusals.specs.Refusing.{refuse, first, answer, unless}
 
 -- the rows added, the rows that there is room for, one total for each column, and which weights are taken
@@ -83,7 +83,3 @@ column-check columns c = refuse (leb columns c) NoSuchColumn
 -- what the question for a total answers
 abbrev pub total-at : Meaning → ℕ → Result ℤ Refusal
 total-at m c = answer (column-check (columns-of m) c) (getD (m .totals) c (pos 0))
-
--- what refuses a new unit
-abbrev pub columns-check : ℕ → Option Refusal
-columns-check n = refuse (eqb n 0 || leb 17 n) ColumnCount

@@ -9,7 +9,7 @@ use mir.Syntax.{w64}
 use mir.Val.{toZ, ofZ}
 use Rattle.std.proofs.shelf.Bits.{one-shl}
 use Rattle.std.proofs.shelf.Signed.{ints, toZ-ofZ, toZ-pos}
-use Rattle.sums.proofs.Integers.{abs-product}
+use Rattle.integers.proofs.Laws.{abs-product}
 use Rattle.alignment.proofs.Values.{capped, fits-small, scaled-small, cut-is, lost-is, alike}
 use Rattle.alignment.proofs.cutting.cut_value.Needs as need
 
