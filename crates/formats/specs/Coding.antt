@@ -1,7 +1,7 @@
 -- What a format means: a decoding of every word, with the laws that it keeps.
 use mathlib.Core.Path.{_≡_}
-use Prim.Native.Nat.{ℕ, _^_, _≤_, _<_}
-use lib.IntN.{ℤ, pos, negℤ, natAbs}
+use Prim.Native.Nat.{ℕ, _*_, _^_, _≤_, _<_}
+use lib.IntN.{ℤ, pos, negℤ, natAbs, _-ℤ_}
 use lib.Signed.{_≤ℤ_}
 use Rattle.std.specs.declared.option.Option.{Option}
 use Rattle.std.specs.Options.{Cases}
@@ -9,6 +9,10 @@ use Rattle.std.specs.Options.{Cases}
 -- a sign (1 or -1), a significand and an exponent: the value is sign × significand × 2^exponent
 abbrev pub Decoded : Type 0
 Decoded = ℤ × ℕ × ℤ
+
+-- the magnitude of a number in units of 2^least, for an exponent that is not below
+abbrev pub units-of : ℤ → Decoded → ℕ
+units-of least d = d .1 * 2 ^ natAbs (d .2 -ℤ least)
 
 -- how many bits a significand has, the range of the exponents, and what each word decodes to: nothing where it is not finite
 pub record Coding (W : Type 0) : Type 0 where

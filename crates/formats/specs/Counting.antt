@@ -4,18 +4,14 @@ use Prim.Native.Nat.{ℕ, _+_, _-_, _*_, _^_, _≤_, _<_}
 use lib.IntN.{ℤ, pos, negℤ, natAbs, _-ℤ_}
 use Rattle.std.specs.declared.option.Option.{Option}
 use Rattle.std.specs.declared.option.Option.the-variants.{Some, None}
-use Rattle.formats.specs.Coding.{Decoded}
+use Rattle.formats.specs.Coding.{Decoded, units-of}
 use Rattle.formats.specs.Interchange.{exponent, interchange}
-
--- the magnitude of a number in units of 2^least
-abbrev pub amount : ℤ → Decoded → ℕ
-amount least d = d .1 * 2 ^ natAbs (d .2 -ℤ least)
 
 -- both are finite and of one sign, and the second is greater in magnitude by one in the last place of the first
 abbrev pub One-up : ℤ → Option Decoded → Option Decoded → Type 0
 One-up least None o = ⊥
 One-up least (Some d) None = ⊥
-One-up least (Some d) (Some e) = (e .0 ≡ d .0) × (amount least e ≡ amount least d + 2 ^ natAbs (d .2 -ℤ least))
+One-up least (Some d) (Some e) = (e .0 ≡ d .0) × (units-of least e ≡ units-of least d + 2 ^ natAbs (d .2 -ℤ least))
 
 -- neither is finite, or they differ in their sign alone
 abbrev pub Opposite : Option Decoded → Option Decoded → Type 0

@@ -3,10 +3,10 @@ use mathlib.Core.Path.{_≡_}
 use mathlib.Core.Logic.{_⊎_}
 use mathlib.Core.Bool.{cond}
 use Prim.Native.Nat.{ℕ, _+_, _-_, _*_, _%_, _^_, _≤_, _<_}
-use lib.IntN.{ℤ, pos, negsuc, _+ℤ_, _*ℤ_, natAbs}
+use lib.IntN.{ℤ, pos, negsuc, _*ℤ_, natAbs}
 use lib.Ieee.{up, down}
 use Rattle.std.specs.declared.option.Option.the-variants.{Some}
-use Rattle.formats.specs.Coding.{Decoded, Coding, Shaped}
+use Rattle.formats.specs.Coding.{Decoded, Coding, Shaped, units-of}
 use Rattle.formats.specs.Interchange.{sign, coding}
 use Rattle.rounding.specs.Word.{below-zero}
 
@@ -20,7 +20,7 @@ Decodes w d = layout .decode w ≡ Some d
 
 -- the magnitude of a word's number in units of 2 ^ -149, the smallest one: every finite word has a whole number of them
 abbrev pub amount : Decoded → ℕ
-amount d = d .1 * 2 ^ natAbs (d .2 +ℤ pos 149)
+amount d = units-of (layout .least) d
 
 -- The magnitude of total times 2 to the power step, which is up step / down step, in units of 2 ^ -149 / down step: a whole number of them, too.
 abbrev pub exactly : ℤ → ℤ → ℕ
