@@ -1,4 +1,6 @@
 // Lining words up: a survey finds the shared exponent, and each value is then cut to a whole number of steps.
+#![tactic(auto)]
+
 mod checked;
 mod cutting;
 mod survey;

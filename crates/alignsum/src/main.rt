@@ -1,4 +1,6 @@
 // The job program: reads a job from standard input, and prints its listing, or by which number it is refused.
+#![tactic(auto)]
+
 ghost use Rattle.std.specs.Prelude.{IfOk, string_bytes};
 ghost use Rattle.alignsum.specs.Printed.{Printed};
 

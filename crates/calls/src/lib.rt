@@ -1,4 +1,6 @@
 // Lists of calls, worked in turn on a run that was just opened.
+#![tactic(auto)]
+
 mod working;
 
 use alignment::ExtraBits;

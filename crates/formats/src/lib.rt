@@ -1,4 +1,6 @@
 // Number formats: each turns a word into a sign, a significand and an exponent, or says that the word is not finite.
+#![tactic(auto)]
+
 ghost use Rattle.std.specs.Prelude.{◌≡◌};
 ghost use Rattle.formats.specs.Coding.{Coding, Lawful};
 

@@ -1,4 +1,6 @@
 // A job of 300 rows and 16 columns, from standard input to its listing.
+#![tactic(auto)]
+
 use job_runs::job_text;
 use std::io;
 use std::io::Read;

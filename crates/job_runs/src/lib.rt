@@ -1,4 +1,6 @@
 // A job from beginning to end: its calls, worked on a run, and the listing that comes of their answers.
+#![tactic(auto)]
+
 mod asking;
 mod text;
 mod told;

@@ -1,4 +1,6 @@
 // Jobs: what is to be summed, as a file that ends in a trailer.
+#![tactic(auto)]
+
 mod activations;
 mod codes;
 mod job;

@@ -1,4 +1,6 @@
 // Layers: each stands on any unit, clears it when made, and is a unit again, of the columns below.
+#![tactic(auto)]
+
 ghost use Rattle.std.specs.Prelude.{◌≡◌, ◌*◌, ◌^◌, ◌≤◌, length, unsigned_abs};
 ghost use Rattle.units.specs.Meaning.{Bounded, reach};
 ghost use Rattle.layers.specs.Layer.{held};

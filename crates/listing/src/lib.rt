@@ -1,5 +1,7 @@
 // What a job prints: a header and a line for each column, or one line that says by which number it was refused. Each line
 // ends with byte 10.
+#![tactic(auto)]
+
 ghost use Rattle.std.specs.Prelude.{Some};
 ghost use Rattle.listing.specs.Lines.{header_text, line_text, listing_text, refused_text};
 

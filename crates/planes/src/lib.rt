@@ -1,5 +1,7 @@
 // The plane unit: eight sums for each column, one for each power of two, to which it adds a or -a. So it needs no
 // multiplier: an odd weight of -255 to 255 is a sum of the powers 1 to 128, each with + or -.
+#![tactic(auto)]
+
 ghost use Rattle.std.specs.Prelude.{◌≡◌, ◌*◌, ◌^◌, ◌≤◌, length};
 ghost use Rattle.planes.specs.Columns.{Eights, EachBounded};
 

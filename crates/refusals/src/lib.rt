@@ -1,4 +1,6 @@
 // Why a call was refused: the one enum of the whole module, with the places that the caller needs.
+#![tactic(auto)]
+
 ghost use Rattle.std.specs.Prelude.{◌≡◌};
 ghost use Rattle.refusals.specs.Number.{number_of};
 

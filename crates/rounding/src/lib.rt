@@ -1,4 +1,6 @@
 // A whole number times a power of two, rounded once to IEEE 754 binary32: nearest, a tie to the even significand, subnormals kept.
+#![tactic(auto)]
+
 ghost use Rattle.std.specs.Prelude.{◌≡◌, ◌+◌, ◌*◌, ◌^◌, ◌<◌, ◌≤◌, pos, ◌+ℤ◌, ◌≤ℤ◌, FitsSigned, from_bits};
 ghost use Rattle.std.specs.Float.{binary32};
 ghost use Rattle.std.specs.Float.Ieee.{down, size, up};

@@ -1,4 +1,6 @@
 // Figures worked by hand, run through lists of calls on real formats, sheets and piles of layers.
+#![tactic(auto)]
+
 #[cfg(test)]
 mod tests {
     use alignment::ExtraBits;

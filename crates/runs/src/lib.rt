@@ -1,5 +1,7 @@
 // A run: words are surveyed for the exponent that they share, and then cut to whole steps and fed, with their weights, to
 // a unit. Each state is a type: a call that the state does not allow cannot be written.
+#![tactic(auto)]
+
 ghost use Rattle.std.specs.Prelude.{◌≡◌, ℕ, ◌*◌, ◌≤◌, length, slice_index};
 
 mod aligned;

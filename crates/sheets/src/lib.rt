@@ -1,4 +1,6 @@
 // Sheets of weights, read where they lie in the caller's bytes.
+#![tactic(auto)]
+
 ghost use Rattle.std.specs.Prelude.{◌≡◌, length};
 ghost use Rattle.refusals.specs.Refusing.{answer, unless, verdict};
 ghost use Rattle.sheets.specs.Page.{Lawful, Page, line, place_check, row_check};

@@ -1,5 +1,7 @@
 // What a column adds up, and what its total and its slack say of the exact sum. There is no code here: each function
 // stands for a law of the definitions in specs/, which the contracts of the other crates cite.
+#![tactic(auto)]
+
 ghost use Rattle.sums.specs.Laws.{WithinSlack, ZeroSlack, OrderFree};
 
 // The total and the slack tell where the exact sum lies.

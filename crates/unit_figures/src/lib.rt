@@ -1,4 +1,6 @@
 // Figures worked by hand, run against the units and the layers.
+#![tactic(auto)]
+
 #[cfg(test)]
 mod tests {
     use layers::{Drain, Odd};

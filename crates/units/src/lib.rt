@@ -1,4 +1,6 @@
 // A unit sums activation × weight, column by column. This crate has what every unit does, and the multiplier unit.
+#![tactic(auto)]
+
 ghost use Rattle.std.specs.Prelude.{◌≡◌, ◌≤◌, length};
 ghost use Rattle.refusals.specs.Refusing.{verdict};
 ghost use Rattle.units.specs.Meaning.{Meaning, Lawful, Bounded, reach, columns_of, add_check, after_add, cleared, total_at};

@@ -29,8 +29,8 @@ pub returns-then-total-lt0 : goal.returns-then-total-lt0
 returns-then-total-lt0 c =
     let total = c.args.total in
     let step = c.args.step in
-    let r = 2 ^ 31 + c.unsigned-word-rest.result in
-    let rest = rest_is total step _ _ c.ranges.total c.ranges.step c.unsigned-abs.ensures.value c.unsigned-word-rest.ensures.value in
+    let r = 2 ^ 31 + c.unsigned_word-rest.result in
+    let rest = rest_is total step _ _ c.ranges.total c.ranges.step c.unsigned_abs.ensures.value c.unsigned_word-rest.ensures.value in
     let same : r ≡ nearest_word total step = ap (λ (x : ℕ). 2 ^ 31 + x) rest ∙ sym (nearest_word_below_zero total step (omega (arith, ints))) in
     record { value = same; read = read total step r same; nearest = near total step r same; only = only total step r (omega arith) (near total step r same); given_back = back total step r same }
 
@@ -38,7 +38,7 @@ pub returns-else-total-lt0 : goal.returns-else-total-lt0
 returns-else-total-lt0 c =
     let total = c.args.total in
     let step = c.args.step in
-    let r = c.unsigned-word-rest.result in
-    let rest = rest_is total step _ _ c.ranges.total c.ranges.step c.unsigned-abs.ensures.value c.unsigned-word-rest.ensures.value in
+    let r = c.unsigned_word-rest.result in
+    let rest = rest_is total step _ _ c.ranges.total c.ranges.step c.unsigned_abs.ensures.value c.unsigned_word-rest.ensures.value in
     let same : r ≡ nearest_word total step = rest ∙ sym (nearest_word_from_zero total step (omega (arith, ints))) in
     record { value = same; read = read total step r same; nearest = near total step r same; only = only total step r (omega arith) (near total step r same); given_back = back total step r same }

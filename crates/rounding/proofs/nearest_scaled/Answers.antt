@@ -7,9 +7,9 @@ use Rattle.rounding.proofs.nearest_scaled.Goals as goal
 
 pub returns-then-power-lt0 : goal.returns-then-power-lt0
 returns-then-power-lt0 c =
-    let same : c.nearest-quotient.result ≡ nearest_whole (c.args.n * up c.args.power) (down c.args.power) =
-    c.nearest-quotient.ensures
-    ∙ ap (λ (k : ℕ). nearest_whole c.args.n (2 ^ k)) (c.unsigned-abs.ensures.value ∙ ap nat_abs (to_z-of_z c.ranges.power))
+    let same : c.nearest_quotient.result ≡ nearest_whole (c.args.n * up c.args.power) (down c.args.power) =
+    c.nearest_quotient.ensures
+    ∙ ap (λ (k : ℕ). nearest_whole c.args.n (2 ^ k)) (c.unsigned_abs.ensures.value ∙ ap nat_abs (to_z-of_z c.ranges.power))
     ∙ scaled_down c.args.n c.args.power (omega (arith, ints)) in
     record { value = same; bound = subst (λ (k : ℕ). k ≤ 2 ^ 24) (sym same) (scaled_high c.args.n c.args.power c.requires.room) }
 

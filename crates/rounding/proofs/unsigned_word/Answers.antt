@@ -14,47 +14,47 @@ pub returns-then-magnitude-eq0 : goal.returns-then-magnitude-eq0
 returns-then-magnitude-eq0 c =
     record { value = sym (ap (λ (m : ℕ). unsigned_word m c.args.step) c.if-magnitude-eq0.true ∙ unsigned_word_zero c.args.step); bound = omega arith }
 
-pub overflow-sub-step : goal.overflow-sub-step
-overflow-sub-step c =
+pub overflow_sub-step : goal.overflow_sub-step
+overflow_sub-step c =
     let most = digits c.ranges.magnitude in
     omega (arith, ints, clamps)
 
-pub nearest-scaled-significand-requires : goal.nearest-scaled-significand-requires
-nearest-scaled-significand-requires c =
+pub nearest_scaled-significand-requires : goal.nearest_scaled-significand-requires
+nearest_scaled-significand-requires c =
     let most = digits c.ranges.magnitude in
     record { some = omega arith; most = c.requires; room = omega (arith, ints, clamps) }
 
-pub overflow-sub-word : goal.overflow-sub-word
-overflow-sub-word c =
+pub overflow_sub-word : goal.overflow_sub-word
+overflow_sub-word c =
     let most = digits c.ranges.magnitude in
     omega (arith, ints, clamps)
 
-pub overflow-cast-word : goal.overflow-cast-word
-overflow-cast-word c =
+pub overflow_cast-word : goal.overflow_cast-word
+overflow_cast-word c =
     let most = digits c.ranges.magnitude in
     (omega (arith, ints, clamps), omega (arith, ints, clamps))
 
-pub overflow-mul-word : goal.overflow-mul-word
-overflow-mul-word c =
+pub overflow_mul-word : goal.overflow_mul-word
+overflow_mul-word c =
     let most = digits c.ranges.magnitude in
     omega (arith, ints, clamps)
 
-pub overflow-add-word : goal.overflow-add-word
-overflow-add-word c =
+pub overflow_add-word : goal.overflow_add-word
+overflow_add-word c =
     let most = digits c.ranges.magnitude in
     omega (arith, ints, clamps)
 
 pub returns : goal.returns
 returns c =
     let m = c.args.magnitude in
-    let last = c.last-place-last.result in
+    let last = c.last_place-last.result in
     let most = digits c.ranges.magnitude in
     let by = to_z w64 (of_z w64 (to_z w64 (of_z w64 c.from-step.result) -ℤ to_z w64 (of_z w64 last))) in
     let field = to_z w64 (of_z w64 (to_z w64 (of_z w64 last) -ℤ negsuc 148)) in
     let by_is : by ≡ c.args.step -ℤ last = omega (arith, ints, clamps) in
     let field_is : pos (nat_abs field) ≡ last -ℤ negsuc 148 = omega (arith, ints, clamps) in
     let last_is : last ≡ last_place m c.args.step = omega (arith, ints, clamps) in
-    let significand : c.nearest-scaled-significand.result ≡ nearest_whole (m * up (c.args.step -ℤ last)) (down (c.args.step -ℤ last)) =
-    c.nearest-scaled-significand.ensures.value ∙ ap (λ (z : ℤ). nearest_whole (m * up z) (down z)) by_is in
+    let significand : c.nearest_scaled-significand.result ≡ nearest_whole (m * up (c.args.step -ℤ last)) (down (c.args.step -ℤ last)) =
+    c.nearest_scaled-significand.ensures.value ∙ ap (λ (z : ℤ). nearest_whole (m * up z) (down z)) by_is in
     let word = unsigned_word_is m c.args.step last (nat_abs field) (omega arith) last_is field_is in
     record { value = omega (arith, ints, clamps, c.min.ensures); bound = omega arith }

@@ -5,25 +5,25 @@ use Rattle.alignment.specs.Cutting.{step_size, word_check, aligned}
 use Rattle.alignment.proofs.Rows.{cuttable, not_above}
 use Rattle.alignment.proofs.cutting.cut_row.Goals as goal
 
-pub returns-in-err-decoded : goal.returns-in-err-decoded
-returns-in-err-decoded g c =
+pub returns-in_err-decoded : goal.returns-in_err-decoded
+returns-in_err-decoded g c =
     let word = (g.F.Format.meaning c.args.format.now).decode c.args.word in
-    let p = err_from_is_err_and c.from-residual.result c.from-residual.ensures.1 in
-    let no = was_refused (word_check c.args.step.shared.exponent c.args.row word) _ _ c.in-err-decoded.ensures in
+    let p = err_from_is_err_and c.from_residual.result c.from_residual.ensures.1 in
+    let no = was_refused (word_check c.args.step.shared.exponent c.args.row word) _ _ c.in_err-decoded.ensures in
     record { answers = p.1 ∙ ap Err p.2 ∙ refused _ no; small = λ none. absurd (none_some none no) }
 
-pub cut-value-requires : goal.cut-value-requires
-cut-value-requires g c =
+pub cut_value-requires : goal.cut_value-requires
+cut_value-requires g c =
     let f = g.F.Format.meaning c.args.format.now in
     let shared = c.args.step.shared.exponent in
-    let d = c.in-ok-decoded.decoded in
-    let ok = was_made (word_check shared c.args.row (f.decode c.args.word)) _ d c.in-ok-decoded.ensures in
+    let d = c.in_ok-decoded.decoded in
+    let ok = was_made (word_check shared c.args.row (f.decode c.args.word)) _ d c.in_ok-decoded.ensures in
     let can = cuttable f (g.met.F.Format.lawful c.args.format.now) shared c.args.word d ok.1 (not_above shared c.args.row d ok.1 ok.0) in
     record { sign = can.sign; significand = can.significand; low = can.low; under = can.under }
 
 pub returns : goal.returns
 returns g c =
     let word = (g.F.Format.meaning c.args.format.now).decode c.args.word in
-    let ok = was_made (word_check c.args.step.shared.exponent c.args.row word) _ c.in-ok-decoded.decoded c.in-ok-decoded.ensures in
-    let is = c.cut-value.ensures.value ∙ sym (ap (aligned (step_size c.args.step)) ok.1) in
-    record { answers = accepted ok.0 is; small = λ _. rw (← is) c.cut-value.ensures.small }
+    let ok = was_made (word_check c.args.step.shared.exponent c.args.row word) _ c.in_ok-decoded.decoded c.in_ok-decoded.ensures in
+    let is = c.cut_value.ensures.value ∙ sym (ap (aligned (step_size c.args.step)) ok.1) in
+    record { answers = accepted ok.0 is; small = λ _. rw (← is) c.cut_value.ensures.small }

@@ -26,8 +26,8 @@ magnitude c =
 small : (c : goal.After-from-2) → (c.from.result * 2 ^ c.args.step.extra.bits) % 2 ^ 64 / 2 ^ c.min-places.result < 2 ^ 36
 small c = omega (arith, magnitude c, (scaled c).1, div-le_self (c.args.decoded.1 * 2 ^ c.args.step.extra.bits) (2 ^ nat_abs (c.args.step.shared.exponent -ℤ c.args.decoded.2)))
 
-pub overflow-cast-result-2 : goal.overflow-cast-result-2
-overflow-cast-result-2 c = record { sfits = omega (arith, small c) }
+pub overflow_cast-result-2 : goal.overflow_cast-result-2
+overflow_cast-result-2 c = record { sfits = omega (arith, small c) }
 
 -- what the shift leaves out
 rest : (c : goal.After-from-2) → (c.from.result * 2 ^ c.args.step.extra.bits) % 2 ^ 64 % ((1 * 2 ^ c.min-places.result) % 2 ^ 64) ≡ (c.args.decoded.1 * 2 ^ c.args.step.extra.bits) % 2 ^ nat_abs (c.args.step.shared.exponent -ℤ c.args.decoded.2)
@@ -51,8 +51,8 @@ size c =
     let left = c.args.decoded.1 * 2 ^ c.args.step.extra.bits / 2 ^ nat_abs (c.args.step.shared.exponent -ℤ c.args.decoded.2) in
     omega (arith, ap nat_abs (product c) ∙ abs_product c.args.decoded.0 (pos left) ∙ ap (λ k. k * left) c.requires.sign, small c, magnitude c)
 
-pub overflow-mul-result : goal.overflow-mul-result
-overflow-mul-result c = fits_small _ (size c)
+pub overflow_mul-result : goal.overflow_mul-result
+overflow_mul-result c = fits_small _ (size c)
 
 pub returns : goal.returns
 returns c =

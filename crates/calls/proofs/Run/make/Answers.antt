@@ -10,22 +10,22 @@ use Rattle.calls.proofs.Run.make.Goals as goal
 
 pub returns-in-Survey : goal.returns-in-Survey
 returns-in-Survey g c =
-    let made = makes_at g.F.Format.meaning g.U.Unit.meaning g.S.Weights.meaning c.args.self (run.Surveying c.in-Surveying.run') c.args.call.now (call.Survey c.in-Survey.words) (run.Surveying c.survey.new.self) c.answer-of-answer.result c.in-Surveying.is c.in-Survey.is
-    (c.survey.ensures.format, refl, follows (survey (tile_of (g.F.Format.meaning c.in-Surveying.run'.format) c.in-Survey.words.now)) _ _ _ _ (c.answer-of-answer.ensures ∙ ap told c.survey.ensures.answers) c.survey.ensures.logs) in
+    let made = makes_at g.F.Format.meaning g.U.Unit.meaning g.S.Weights.meaning c.args.self (run.Surveying c.in-Surveying.run') c.args.call.now (call.Survey c.in-Survey.words) (run.Surveying c.survey.new.self) c.answer_of-answer.result c.in-Surveying.is c.in-Survey.is
+    (c.survey.ensures.format, refl, follows (survey (tile_of (g.F.Format.meaning c.in-Surveying.run'.format) c.in-Survey.words.now)) _ _ _ _ (c.answer_of-answer.ensures ∙ ap told c.survey.ensures.answers) c.survey.ensures.logs) in
     record { format = made.0; stage = made.1; follows = made.2 }
 
 pub returns-in-Feed : goal.returns-in-Feed
 returns-in-Feed g c =
-    let made = makes_at g.F.Format.meaning g.U.Unit.meaning g.S.Weights.meaning c.args.self (run.Aligned c.in-Aligned.run') c.args.call.now (call.Feed c.in-Feed.words c.in-Feed.sheet) (run.Aligned c.feed.new.self) c.answer-of-answer-in-Feed.result c.in-Aligned.is c.in-Feed.is
-    (c.feed.ensures.format, refl, follows (feed (tile_of (g.F.Format.meaning c.in-Aligned.run'.format) c.in-Feed.words.now) (g.S.Weights.meaning c.in-Feed.sheet)) _ _ _ _ (c.answer-of-answer-in-Feed.ensures ∙ ap told c.feed.ensures.answers) c.feed.ensures.logs) in
+    let made = makes_at g.F.Format.meaning g.U.Unit.meaning g.S.Weights.meaning c.args.self (run.Aligned c.in-Aligned.run') c.args.call.now (call.Feed c.in-Feed.words c.in-Feed.sheet) (run.Aligned c.feed.new.self) c.answer_of-answer-in-Feed.result c.in-Aligned.is c.in-Feed.is
+    (c.feed.ensures.format, refl, follows (feed (tile_of (g.F.Format.meaning c.in-Aligned.run'.format) c.in-Feed.words.now) (g.S.Weights.meaning c.in-Feed.sheet)) _ _ _ _ (c.answer_of-answer-in-Feed.ensures ∙ ap told c.feed.ensures.answers) c.feed.ensures.logs) in
     record { format = made.0; stage = made.1; follows = made.2 }
 
-pub returns-in-default-call : goal.returns-in-default-call
-returns-in-default-call g c =
+pub returns-in_default-call : goal.returns-in_default-call
+returns-in_default-call g c =
     let r = run.Aligned c.in-Aligned.run' in
     let given = c.args.call.now in
     let ok = subst (λ x. allowed (is_aligned x) (event_of (g.F.Format.meaning (format_of x)) g.S.Weights.meaning given) ≡ true) c.in-Aligned.is c.requires in
-    let is = clear_only (g.F.Format.meaning (format_of r)) g.S.Weights.meaning given ok c.in-default-call.not-Feed c.in-default-call.not-Read in
+    let is = clear_only (g.F.Format.meaning (format_of r)) g.S.Weights.meaning given ok c.in_default-call.not-Feed c.in_default-call.not-Read in
     let made = makes_at g.F.Format.meaning g.U.Unit.meaning g.S.Weights.meaning c.args.self r given call.Clear (run.Surveying c.clear.result) _ c.in-Aligned.is is
     (c.clear.ensures.format, refl, λ l h. (refl, (c.clear.ensures.logs l h).1)) in
     record { format = made.0; stage = made.1; follows = made.2 }

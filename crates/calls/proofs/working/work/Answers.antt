@@ -14,7 +14,7 @@ returns-in-Err g c =
     let opening = c.args.opening in
     let events = events_of g.F.Format.meaning page opening c.args.calls.now in
     kept_out g.F.Format.meaning g.U.Unit.meaning (opened_log g.F.Format.meaning g.U.Unit.meaning opening) events (misplaced 0 false events) c.in-Err.misplaced
-    (sym c.in-Err.is ∙ c.check-places.ensures (g.F.Format.meaning opening.format) page)
+    (sym c.in-Err.is ∙ c.check_places.ensures (g.F.Format.meaning opening.format) page)
 
 pub loop-call-init : goal.loop-call-init
 loop-call-init g c =
@@ -22,7 +22,7 @@ loop-call-init g c =
     let coding = g.F.Format.meaning (format_of c.open-run.result) in
     let events = map (event_of coding page) c.args.calls.now in (
       refl,
-      ap (λ b. misplaced 0 b events) c.open-run.ensures.stage ∙ well_placed _ (sym c.in-default.is ∙ c.check-places.ensures coding page),
+      ap (λ b. misplaced 0 b events) c.open-run.ensures.stage ∙ well_placed _ (sym c.in_default.is ∙ c.check_places.ensures coding page),
       λ m h. (c.new-answers.ensures.items, h),
     )
 
@@ -51,7 +51,7 @@ loop-call-preserved g c =
           let now_log = log_after m (map event (take i calls)) in
           let made = c.make-next.ensures.follows now_log so_far.1 in
           let answer = made.0 ∙ ap (answer_to now_log) same in (
-            pushed (c.make-next.result.1 ∷ []) so_far.0 c.in-ok-push.was c.push.ensures.items
+            pushed (c.make-next.result.1 ∷ []) so_far.0 c.in_ok-push.was c.push.ensures.items
                 ∙ ap (λ a. answers_to m (map event (take i calls)) ++ a ∷ []) answer
                 ∙ answers_more event calls i call c.loop-call-test.true c.call-item.is m,
             subst (λ (l : Log). Holds l (state_of g.F.Format.meaning g.U.Unit.meaning c.make-next.result.0))
@@ -72,6 +72,6 @@ returns g c =
     ∙ ap (map (event_of (g.F.Format.meaning opening.format) page)) (take_all i calls c.loop-call-test.false) in
     let end = c.loop-call.invariant.2 before c.open-run.ensures.logs in
     worked g.F.Format.meaning g.U.Unit.meaning before events (misplaced 0 false events) _
-    (well_placed _ (sym c.in-default.is ∙ c.check-places.ensures (g.F.Format.meaning opening.format) page))
+    (well_placed _ (sym c.in_default.is ∙ c.check_places.ensures (g.F.Format.meaning opening.format) page))
     (end.0 ∙ ap (answers_to before) all)
     (subst (λ (es : List Event). Holds (log_after before es) (state_of g.F.Format.meaning g.U.Unit.meaning c.loop-call.run)) all end.1)

@@ -11,10 +11,10 @@ use Rattle.job_runs.specs.Events.{events_of, feeds}
 use Rattle.job_runs.proofs.Left.{sized, feeds_on, sheets_behind, none_fed}
 use Rattle.job_runs.proofs.asking.ask_feeds.Goals as goal
 
-pub split-at-requires : goal.split-at-requires
-split-at-requires g c =
+pub split_at-requires : goal.split_at-requires
+split_at-requires g c =
     let parts = c.in-Some.ensures.steps.1 in
-    omega (arith, c.byte-length-size.ensures.value, c.loop-tile.invariant.3, sheets_behind (chunks_rest c.loop-tile.tile-iterator) c.in-Some.tile.now (chunks_rest c.next.new.self) (chunks_size c.loop-tile.tile-iterator) parts.0 parts.1 c.loop-tile.invariant.2 parts.2 c.args.plan)
+    omega (arith, c.byte_length-size.ensures.value, c.loop-tile.invariant.3, sheets_behind (chunks_rest c.loop-tile.tile-iterator) c.in-Some.tile.now (chunks_rest c.next.new.self) (chunks_size c.loop-tile.tile-iterator) parts.0 parts.1 c.loop-tile.invariant.2 parts.2 c.args.plan)
 
 pub loop-tile-preserved : goal.loop-tile-preserved
 loop-tile-preserved g c =
@@ -24,19 +24,19 @@ loop-tile-preserved g c =
     let rest = chunks_rest c.loop-tile.tile-iterator in
     let more = chunks_rest c.next.new.self in
     let old = c.loop-tile.calls in
-    let feed = call.Feed tile c.sheet-of.result in
+    let feed = call.Feed tile c.sheet_of.result in
     let size = c.in-Some.ensures.steps.0 ∙ c.loop-tile.invariant.2 in
     let parts = c.in-Some.ensures.steps.1 in
     let bytes = sheets_behind rest tile.now more (chunks_size c.loop-tile.tile-iterator) parts.0 parts.1 c.loop-tile.invariant.2 parts.2 p in
-    let behind = c.split-at.ensures.back ∙ ap (λ n. drop n sheets) c.byte-length-size.ensures.value in
-    let paged = c.sheet-of.ensures ∙ ap (page p.sheet (length tile.now) p.columns) (c.split-at.ensures.front ∙ ap (λ n. take n sheets) c.byte-length-size.ensures.value) in
-    let items = pushed (feed ∷ []) refl c.in-ok-push.was c.push.ensures.items in (
+    let behind = c.split_at.ensures.back ∙ ap (λ n. drop n sheets) c.byte_length-size.ensures.value in
+    let paged = c.sheet_of.ensures ∙ ap (page p.sheet (length tile.now) p.columns) (c.split_at.ensures.front ∙ ap (λ n. take n sheets) c.byte_length-size.ensures.value) in
+    let items = pushed (feed ∷ []) refl c.in_ok-push.was c.push.ensures.items in (
       tt,
       omega (arith, size),
       size,
-      omega (arith, c.split-at.ensures.back_len, c.byte-length-size.ensures.value, c.loop-tile.invariant.3, bytes),
+      omega (arith, c.split_at.ensures.back_len, c.byte_length-size.ensures.value, c.loop-tile.invariant.3, bytes),
       λ f. ap (λ bs. events_of f (vec_items c.push.new.self) ++ feeds (sized p (length more)) (tile_of f more) bs) behind
-          ∙ feeds_on f rest tile.now more (chunks_size c.loop-tile.tile-iterator) parts.0 parts.1 c.loop-tile.invariant.2 parts.2 p sheets (any_meaning c.sheet-of.result)
+          ∙ feeds_on f rest tile.now more (chunks_size c.loop-tile.tile-iterator) parts.0 parts.1 c.loop-tile.invariant.2 parts.2 p sheets (any_meaning c.sheet_of.result)
           (events_of f (vec_items old)) (events_of f (vec_items c.push.new.self)) paged (ap (events_of f) items ∙ map_push (event_of f any_meaning) (vec_items old) feed)
           ∙ c.loop-tile.invariant.4 f,
     )

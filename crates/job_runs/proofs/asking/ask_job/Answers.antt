@@ -13,13 +13,13 @@ use Rattle.job_runs.proofs.asking.ask_job.Goals as goal
 pub returns : goal.returns
 returns g c =
     let p = c.args.plan in
-    let old = c.in-ok-calls.calls in
-    let fed = c.in-ok-calls-2.calls in
-    let items = pushed (call.Fix ∷ []) refl c.in-ok-push.was c.push.ensures.items in
-    made_as c.ask-reads.result _ _ (λ v read f.
+    let old = c.in_ok-calls.calls in
+    let fed = c.in_ok-calls-2.calls in
+    let items = pushed (call.Fix ∷ []) refl c.in_ok-push.was c.push.ensures.items in
+    made_as c.ask_reads.result _ _ (λ v read f.
     in_order (events_of f (vec_items v)) (events_of f (vec_items fed)) (events_of f (vec_items c.push.new.self)) (events_of f (vec_items old))
     (surveys (tile_of f c.args.words.now)) (feeds p (tile_of f c.args.words.now) c.args.weights.now) (reads p.columns)
     (read f ∙ ap (λ n. events_of f (vec_items fed) ++ reads n) c.from.ensures)
-    (c.in-ok-calls-2.ensures f)
+    (c.in_ok-calls-2.ensures f)
     (ap (events_of f) items ∙ map_push (event_of f any_meaning) (vec_items old) call.Fix)
-    (c.in-ok-calls.ensures f)) c.ask-reads.ensures
+    (c.in_ok-calls.ensures f)) c.ask_reads.ensures

@@ -16,7 +16,7 @@ pub loop-column-preserved : goal.loop-column-preserved
 loop-column-preserved g c =
     let old = c.loop-column.calls in
     let column = c.loop-column.column in
-    let items = pushed (call.Read column ∷ []) refl c.in-ok-push.was c.push.ensures.items in λ f.
+    let items = pushed (call.Read column ∷ []) refl c.in_ok-push.was c.push.ensures.items in λ f.
     ap (events_of f) items
     ∙ map_push (event_of f any_meaning) (vec_items old) (call.Read column)
     ∙ ap (λ es. es ++ read column ∷ []) (c.loop-column.invariant f)

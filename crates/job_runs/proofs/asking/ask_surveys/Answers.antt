@@ -12,12 +12,12 @@ use Rattle.job_runs.proofs.asking.ask_surveys.Goals as goal
 
 pub loop-tile-init : goal.loop-tile-init
 loop-tile-init g c =
-    let all = ap chunks_rest c.into-iter-tile-iterator.ensures.into-iter-gives ∙ c.chunks-tile-items.ensures.rest in
-    let size = ap chunks_size c.into-iter-tile-iterator.ensures.into-iter-gives ∙ c.chunks-tile-items.ensures.size in (
+    let all = ap chunks_rest c.into_iter-tile-iterator.ensures.into_iter-gives ∙ c.chunks-tile-items.ensures.rest in
+    let size = ap chunks_size c.into_iter-tile-iterator.ensures.into_iter-gives ∙ c.chunks-tile-items.ensures.size in (
       tt,
       omega (arith, size),
       size,
-      λ f. ap (λ cs. events_of f cs ++ surveys (tile_of f (chunks_rest c.into-iter-tile-iterator.result))) c.new-calls.ensures.items ∙ ap (λ ws. surveys (tile_of f ws)) all,
+      λ f. ap (λ cs. events_of f cs ++ surveys (tile_of f (chunks_rest c.into_iter-tile-iterator.result))) c.new-calls.ensures.items ∙ ap (λ ws. surveys (tile_of f ws)) all,
     )
 
 pub loop-tile-preserved : goal.loop-tile-preserved
@@ -26,7 +26,7 @@ loop-tile-preserved g c =
     let old = c.loop-tile.calls in
     let size = c.in-Some.ensures.steps.0 ∙ c.loop-tile.invariant.2 in
     let parts = c.in-Some.ensures.steps.1 in
-    let items = pushed (call.Survey tile ∷ []) refl c.in-ok-push.was c.push.ensures.items in (
+    let items = pushed (call.Survey tile ∷ []) refl c.in_ok-push.was c.push.ensures.items in (
       tt,
       omega (arith, size),
       size,

@@ -9,7 +9,7 @@ pub loop-column-preserved : goal.loop-column-preserved
 loop-column-preserved c =
     let rs = c.args.readings.now in
     let column = c.loop-column.column in
-    let items = pushed (c.line.result ∷ []) refl c.in-ok-push.was c.push.ensures.items in
+    let items = pushed (c.line.result ∷ []) refl c.in_ok-push.was c.push.ensures.items in
     one_taken (vec_items c.loop-column.lines) (vec_items c.push.new.self) (lines_from (column + 1) (drop (column + 1) rs)) (lines_from column (drop column rs)) (lines_from 0 rs) c.line.result items
     (line_taken rs column _ c.line.result c.loop-column-test.true c.line.ensures) c.loop-column.invariant
 

@@ -10,8 +10,8 @@ use Rattle.job_runs.specs.Parts.{takes_of}
 use Rattle.job_runs.proofs.Opened.{opened_as}
 use Rattle.job_runs.proofs.working.list_words.Goals as goal
 
-pub list-unit-requires : goal.list-unit-requires
-list-unit-requires g c =
+pub list_unit-requires : goal.list_unit-requires
+list_unit-requires g c =
     let n = c.from-columns.result in
     let made = (when_made (columns_check n) (λ u. multiplier u ≡ fresh_multiplier n) c.new.result c.unwrap.result c.unwrap.ensures c.new.ensures).1 in
     record {
@@ -22,8 +22,8 @@ list-unit-requires g c =
           opened_as c.args.plan _ _ (multiplier c.unwrap.result) c.requires.least c.new-unit.ensures.fresh (ap columns_of made ∙ length-replicate n (pos 0) ∙ c.from-columns.ensures) (sym (ap takes_of c.in-DrainMultiplier.is));
     }
 
-pub list-unit-requires-in-DrainOddPlane : goal.list-unit-requires-in-DrainOddPlane
-list-unit-requires-in-DrainOddPlane g c =
+pub list_unit-requires-in-DrainOddPlane : goal.list_unit-requires-in-DrainOddPlane
+list_unit-requires-in-DrainOddPlane g c =
     let n = c.from-columns.result in
     let made = (when_made (columns_check n) (λ u. plane u ≡ fresh_plane n) c.new-in-DrainOddPlane.result c.unwrap-in-DrainOddPlane.result c.unwrap-in-DrainOddPlane.ensures c.new-in-DrainOddPlane.ensures.made).1 in
     record {
@@ -35,8 +35,8 @@ list-unit-requires-in-DrainOddPlane g c =
           (ap columns_of c.new-in-DrainOddPlane-2.ensures.fresh ∙ length-replicate (columns_of (plane c.unwrap-in-DrainOddPlane.result)) (pos 0) ∙ ap columns_of made ∙ length-replicate n (pos 0) ∙ c.from-columns.ensures) (sym (ap takes_of c.in-DrainOddPlane.is));
     }
 
-pub list-unit-requires-in-DrainPlane : goal.list-unit-requires-in-DrainPlane
-list-unit-requires-in-DrainPlane g c =
+pub list_unit-requires-in-DrainPlane : goal.list_unit-requires-in-DrainPlane
+list_unit-requires-in-DrainPlane g c =
     let n = c.from-columns.result in
     let made = (when_made (columns_check n) (λ u. plane u ≡ fresh_plane n) c.new-in-DrainPlane.result c.unwrap-in-DrainPlane.result c.unwrap-in-DrainPlane.ensures c.new-in-DrainPlane.ensures.made).1 in
     record {

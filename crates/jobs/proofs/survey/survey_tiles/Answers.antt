@@ -11,8 +11,8 @@ use Rattle.jobs.proofs.survey.survey_tiles.Goals as goal
 pub loop-tile-init : goal.loop-tile-init
 loop-tile-init g c =
     let f = g.F.Format.meaning c.args.format.now in
-    let all = sym (ap chunks_rest c.into-iter-tile-iterator.ensures.into-iter-gives ∙ c.chunks-tile-items.ensures.rest) in
-    let size = ap chunks_size c.into-iter-tile-iterator.ensures.into-iter-gives ∙ c.chunks-tile-items.ensures.size in (
+    let all = sym (ap chunks_rest c.into_iter-tile-iterator.ensures.into_iter-gives ∙ c.chunks-tile-items.ensures.rest) in
+    let size = ap chunks_size c.into_iter-tile-iterator.ensures.into_iter-gives ∙ c.chunks-tile-items.ensures.size in (
       tt,
       omega (arith, size),
       size,
@@ -20,13 +20,13 @@ loop-tile-init g c =
       ap (λ m. largest m (map f.decode c.args.words.now)) (sym c.least-shared.ensures) ∙ ap (λ ws. largest c.least-shared.result.exponent (map f.decode ws)) all,
     )
 
-pub returns-in-err-shared : goal.returns-in-err-shared
-returns-in-err-shared g c =
+pub returns-in_err-shared : goal.returns-in_err-shared
+returns-in_err-shared g c =
     let f = (g.F.Format.meaning c.args.format.now).decode in
     let tile = c.in-Some.tile.now in
     let parts = c.in-Some.ensures.steps.1 in
-    let p = err_from_is_err_and c.from-residual.result c.from-residual.ensures.1 in
-    let faulty = was_refused (survey_check (map f tile)) _ _ c.in-err-shared.ensures.made in
+    let p = err_from_is_err_and c.from_residual.result c.from_residual.ensures.1 in
+    let faulty = was_refused (survey_check (map f tile)) _ _ c.in_err-shared.ensures.made in
     p.1 ∙ ap Err p.2
     ∙ refused _ (c.loop-tile.invariant.3 ∙ next_faulty f (chunks_rest c.loop-tile.tile-iterator) tile (chunks_rest c.next.new.self) (chunks_size c.loop-tile.tile-iterator) parts.0 parts.1 c.loop-tile.invariant.2 _ faulty)
 
@@ -38,7 +38,7 @@ loop-tile-preserved g c =
     let more = chunks_rest c.next.new.self in
     let size = c.in-Some.ensures.steps.0 ∙ c.loop-tile.invariant.2 in
     let parts = c.in-Some.ensures.steps.1 in
-    let ok = was_made (survey_check (map f tile)) _ _ c.in-ok-shared.ensures.made in (
+    let ok = was_made (survey_check (map f tile)) _ _ c.in_ok-shared.ensures.made in (
       tt,
       omega (arith, size),
       size,

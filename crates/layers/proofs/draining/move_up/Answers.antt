@@ -6,8 +6,8 @@ use Rattle.units.specs.Reach.{sum_fits, plus_nil}
 use Rattle.layers.specs.DrainSteps.{moved}
 use Rattle.layers.proofs.draining.move_up.Goals as goal
 
-pub overflow-add-sums : goal.overflow-add-sums
-overflow-add-sums g c =
+pub overflow_add-sums : goal.overflow_add-sums
+overflow_add-sums g c =
     let m = g.U.Unit.meaning c.args.unit.now in
     let sum = get_or c.loop-column.sums c.loop-column.column (pos 0) in
     let read : total_at m c.loop-column.column ≡ Ok c.unwrap.result = subst (λ o. o ≡ Ok c.unwrap.result) c.total.ensures c.unwrap.ensures in

@@ -4,14 +4,14 @@ use Rattle.std.proofs.lemmas.Int.{ints}
 use Rattle.layers.specs.Odd.{odd_of}
 use Rattle.layers.proofs.halving.double.Goals as goal
 
-pub overflow-mul-doubled : goal.overflow-mul-doubled
-overflow-mul-doubled c =
+pub overflow_mul-doubled : goal.overflow_mul-doubled
+overflow_mul-doubled c =
     let light = c.requires.light c.loop-column.column in
     let fits : SFits w16 (get_or c.args.weights.now c.loop-column.column (pos 0)) = search rules in
     omega (arith, ints)
 
-pub overflow-add-doubled : goal.overflow-add-doubled
-overflow-add-doubled c =
+pub overflow_add-doubled : goal.overflow_add-doubled
+overflow_add-doubled c =
     let light = c.requires.light c.loop-column.column in
     let fits : SFits w16 (get_or c.args.weights.now c.loop-column.column (pos 0)) = search rules in
     omega (arith, ints)

@@ -6,8 +6,8 @@ use Rattle.units.specs.Checks.{columns_pass}
 use Rattle.planes.specs.Powers.{signs_weigh, plane_zeros, zero_eights, zero_bounded}
 use Rattle.planes.proofs.Plane.new.Goals as goal
 
-pub invariant-of-result : goal.invariant-of-result
-invariant-of-result c = (refl, (zero_eights 16, (omega arith, (omega arith, (omega arith, (zero_bounded 0 16, tt))))))
+pub invariant_of-result : goal.invariant_of-result
+invariant_of-result c = record { wide = refl; eights = zero_eights 16; some = omega arith; few = omega arith; short = omega arith; bounded = zero_bounded 0 16 }
 
 pub returns-then-columns-eq0 : goal.returns-then-columns-eq0
 returns-then-columns-eq0 c = record { made = search rules; weighs = signs_weigh }

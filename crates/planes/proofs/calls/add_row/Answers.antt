@@ -6,13 +6,13 @@ use Rattle.planes.specs.Columns.{code, signs, spread}
 use Rattle.planes.specs.Powers.{spread_none, spread_past, spread_more}
 use Rattle.planes.proofs.calls.add_row.Goals as goal
 
-pub code-of-requires : goal.code-of-requires
-code-of-requires c =
+pub code_of-requires : goal.code_of-requires
+code_of-requires c =
     let fits : SFits w16 (get_or c.args.weights.now c.loop-column.column (pos 0)) = search rules in
     simp to_z-of_z (c.requires.light c.loop-column.column)
 
-pub with-row-requires : goal.with-row-requires
-with-row-requires c =
+pub with_row-requires : goal.with_row-requires
+with_row-requires c =
     let i = c.loop-column.column in
     let cs = c.args.sums.now in
     let a_fits = c.ranges.a in
@@ -34,9 +34,9 @@ loop-column-preserved c =
     let w = get_or ws i (pos 0) in
     let fits : SFits w16 w = search rules in
     let so_far = ap (λ ds. get_or ds i []) c.loop-column.invariant ∙ spread_past cs a ws i in
-    let coded = c.code-of.ensures ∙ ap code (to_z-of_z w16 w fits) in
-    let column = c.with-row.ensures ∙ ap (λ d. plus_each d (signs 8 a c.code-of.result)) so_far ∙ ap (λ n. plus_each (get_or cs i []) (signs 8 a n)) coded in
-    ap (λ ds. set ds i c.with-row.result) c.loop-column.invariant
+    let coded = c.code_of.ensures ∙ ap code (to_z-of_z w16 w fits) in
+    let column = c.with_row.ensures ∙ ap (λ d. plus_each d (signs 8 a c.code_of.result)) so_far ∙ ap (λ n. plus_each (get_or cs i []) (signs 8 a n)) coded in
+    ap (λ ds. set ds i c.with_row.result) c.loop-column.invariant
     ∙ ap (set (spread cs a (take i ws)) i) column
     ∙ sym (spread_more cs a ws i (omega (arith, c.requires.enough, c.loop-column-test.true)) c.loop-column-test.true)
 

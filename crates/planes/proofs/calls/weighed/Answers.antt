@@ -10,15 +10,15 @@ loop-power-init c =
     let eight : length c.args.sums ≡ 8 = search rules in
     sym (at_drop_all weigh c.args.sums 8 (omega (arith, eight)))
 
-pub overflow-mul-total : goal.overflow-mul-total
-overflow-mul-total c =
+pub overflow_mul-total : goal.overflow_mul-total
+overflow_mul-total c =
     let eight : length c.args.sums ≡ 8 = search rules in
     let so_far : c.loop-power.total ≡ weigh (drop c.loop-power.power c.args.sums) = sym c.loop-power.total-is ∙ c.loop-power.invariant in
     let bounded = drop_bounded _ c.loop-power.power c.args.sums eight c.requires in
     rw c.loop-power.total-is (omega (arith, ints))
 
-pub overflow-add-total : goal.overflow-add-total
-overflow-add-total c =
+pub overflow_add-total : goal.overflow_add-total
+overflow_add-total c =
     let i = c.loop-power.power - 1 in
     let eight : length c.args.sums ≡ 8 = search rules in
     let so_far : c.loop-power.total ≡ weigh (drop c.loop-power.power c.args.sums) = sym c.loop-power.total-is ∙ c.loop-power.invariant in

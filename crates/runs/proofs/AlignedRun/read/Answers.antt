@@ -12,15 +12,15 @@ pub returns : goal.returns
 returns g c =
     let unit = g.U.Unit.meaning c.args.self.now.unit in
     let column = c.args.column in
-    let asked = c.in-ok-total.ensures in
+    let asked = c.in_ok-total.ensures in
     let ok = (when_ok (column_check (columns_of unit) column) _ _ asked).0 in
     let there = total_read unit column _ (sym asked) in
-    let fits : SFits w64 c.in-ok-total.total = search rules in
+    let fits : SFits w64 c.in_ok-total.total = search rules in
     let fits_exponent : SFits w32 c.exponent-exponent.result = search rules in
-    let total = to_z-of_z w64 c.in-ok-total.total fits ∙ there.1 in
+    let total = to_z-of_z w64 c.in_ok-total.total fits ∙ there.1 in
     let exponent = to_z-of_z w32 c.exponent-exponent.result fits_exponent ∙ c.exponent-exponent.ensures in
     record {
-      answers = accepted ok (figures_are _ _ _ _ _ _ total exponent c.nearest-binary32.ensures.value);
-      nearest = c.nearest-binary32.ensures.nearest;
+      answers = accepted ok (figures_are _ _ _ _ _ _ total exponent c.nearest_binary32.ensures.value);
+      nearest = c.nearest_binary32.ensures.nearest;
       tells = λ l h. let k : column < l.setting.columns = omega (arith, there.0, ap (λ (z : Setting). z.columns) h.setting) in rw total (sound l _ h column k).tells;
     }

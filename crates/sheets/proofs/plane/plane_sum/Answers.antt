@@ -5,18 +5,18 @@ use Rattle.sheets.proofs.Planes.{plane_sum_more}
 use Rattle.sheets.proofs.plane.plane_sum.Goals as goal
 
 -- The sum of the planes so far and one more term are small.
-fits : (c : goal.After-plane-term-sum) → SFits w16 (c.loop-plane.sum +ℤ c.plane-term-sum.result)
+fits : (c : goal.After-plane_term-sum) → SFits w16 (c.loop-plane.sum +ℤ c.plane_term-sum.result)
 fits c =
     let low : c.loop-plane.plane ≤ 8 = omega arith in
     let sum = plane_sum_small c.args.bytes.now c.args.stride c.args.place c.loop-plane.plane in
     omega (arith, ints, pow_mono low)
 
-pub overflow-add-sum : goal.overflow-add-sum
-overflow-add-sum c = let small = fits c in omega (arith, ints)
+pub overflow_add-sum : goal.overflow_add-sum
+overflow_add-sum c = let small = fits c in omega (arith, ints)
 
 pub loop-plane-preserved : goal.loop-plane-preserved
 loop-plane-preserved c =
     let sum = to_z-of_z w16 _ (fits c) in
-    let term = to_z-of_z w16 c.plane-term-sum.result (omega (arith, ints)) in
+    let term = to_z-of_z w16 c.plane_term-sum.result (omega (arith, ints)) in
     let more = plane_sum_more c.args.bytes.now c.args.stride c.args.place c.loop-plane.plane in
     cc

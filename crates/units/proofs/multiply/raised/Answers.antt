@@ -21,14 +21,14 @@ module _ (c : goal.After-from) where
       sum_fits c.args.sum (c.args.a *ℤ c.from.result) c.requires.bounded
       (omega (arith, row_reach c.args.a c.from.result c.requires.small light))
 
-pub overflow-mul-result : goal.overflow-mul-result
-overflow-mul-result c =
+pub overflow_mul-result : goal.overflow_mul-result
+overflow_mul-result c =
     let a_fits = c.ranges.a in
     let r_fits = result_fits c in
     simp to_z-of_z (product c)
 
-pub overflow-add-result : goal.overflow-add-result
-overflow-add-result c =
+pub overflow_add-result : goal.overflow_add-result
+overflow_add-result c =
     let a_fits = c.ranges.a in
     let s_fits = c.ranges.sum in
     let r_fits = result_fits c in

@@ -5,5 +5,5 @@ use Rattle.jobs.proofs.plan.Plan.weight_bytes.Goals as goal
 pub returns : goal.returns
 returns c = record {
   value = cc;
-  bound = omega (arith, mul-le c.from.result c.byte-length-full.result 511 (2 ^ 29) (omega arith) (omega arith));
+  bound = omega (arith, mul-le c.from.result c.byte_length-full.result 511 (2 ^ 29) (omega arith) (omega arith));
 }

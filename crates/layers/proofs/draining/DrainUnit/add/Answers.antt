@@ -8,11 +8,11 @@ use Rattle.layers.specs.Drain.{DrainState, drain_on, drain, room_made, handed_do
 use Rattle.layers.specs.DrainSteps.{Sound, drain_room, accepted_below, room_there, still_accepted, drain_grows}
 use Rattle.layers.proofs.draining.DrainUnit.add.Goals as goal
 
-pub make-room-requires : goal.make-room-requires
-make-room-requires g c =
+pub make_room-requires : goal.make_room-requires
+make_room-requires g c =
     let d = c.args.self.now in
     let s = drain_on (g.U.Unit.meaning d.below) d.rows d.sums in
-    let ok = accepted_at_ok (drain s) c.args.a c.args.weights.now c.ranges.a c.in-ok-check.ensures in
+    let ok = accepted_at_ok (drain s) c.args.a c.args.weights.now c.ranges.a c.in_ok-check.ensures in
     omega (arith, drain_room s c.args.a c.args.weights.now ok)
 
 pub returns : goal.returns
@@ -22,11 +22,11 @@ returns g c =
     let d = c.args.self.now in
     let s = drain_on (g.U.Unit.meaning d.below) d.rows d.sums in
     let sound : Sound s = record { law = g.met.U.Unit.lawful d.below; wide = d.wide; bounded = d.bounded } in
-    let ok = accepted_at_ok (drain s) a ws c.ranges.a c.in-ok-check.ensures in
-    let e = c.make-room.new.self in
+    let ok = accepted_at_ok (drain s) a ws c.ranges.a c.in_ok-check.ensures in
+    let e = c.make_room.new.self in
     let b = g.U.Unit.meaning e.below in
     let t = drain_on b e.rows e.sums in
-    let made : t ≡ room_made s = c.make-room.ensures in
+    let made : t ≡ room_made s = c.make_room.ensures in
     let room : b.rows < b.limit = subst (λ (n : DrainState). n.below.rows < n.below.limit) (sym made) (room_there s sound) in
     let still = subst (λ n. Accepted (drain n) a ws) (sym made) (still_accepted s sound a ws ok) in
     let below = accepted_below t a ws still room in

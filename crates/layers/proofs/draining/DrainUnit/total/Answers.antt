@@ -9,13 +9,13 @@ use Rattle.units.specs.Reach.{sum_fits}
 use Rattle.layers.specs.DrainSteps.{drain_columns, drain_total}
 use Rattle.layers.proofs.draining.DrainUnit.total.Goals as goal
 
-pub returns-in-err-below : goal.returns-in-err-below
-returns-in-err-below g c =
+pub returns-in_err-below : goal.returns-in_err-below
+returns-in_err-below g c =
     let d = c.args.self.now in
     let b = g.U.Unit.meaning d.below in
     let s = drain_on b d.rows d.sums in
-    let refused = total_refused b (drain s) c.args.column _ (drain_columns s) (sym c.total.ensures ∙ c.in-err-below.was) in
-    let p = err_from_is_err_and c.from-residual.result c.from-residual.ensures.1 in
+    let refused = total_refused b (drain s) c.args.column _ (drain_columns s) (sym c.total.ensures ∙ c.in_err-below.was) in
+    let p = err_from_is_err_and c.from_residual.result c.from_residual.ensures.1 in
     rw (p.1, p.2) (sym refused)
 
 pub returns : goal.returns
@@ -23,10 +23,10 @@ returns g c =
     let d = c.args.self.now in
     let b = g.U.Unit.meaning d.below in
     let s = drain_on b d.rows d.sums in
-    let read = total_read b c.args.column _ (sym c.total.ensures ∙ c.in-ok-below.was) in
+    let read = total_read b c.args.column _ (sym c.total.ensures ∙ c.in_ok-below.was) in
     let hold_fits : SFits w64 c.hold.result = search rules in
     let law = g.met.U.Unit.lawful d.below in
-    let below = c.in-ok-below.below in
+    let below = c.in_ok-below.below in
     let own = get_or d.sums c.args.column (pos 0) in
     let below_fits : SFits w64 below = search rules in
     let own_fits : SFits w64 own = search rules in

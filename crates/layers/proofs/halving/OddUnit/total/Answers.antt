@@ -9,13 +9,13 @@ use Rattle.units.specs.Checks.{total_read, total_refused, total_bounded}
 use Rattle.layers.specs.OddSteps.{difference_fits, half_shifted, shift_fits, odd_columns, odd_total}
 use Rattle.layers.proofs.halving.OddUnit.total.Goals as goal
 
-pub returns-in-err-below : goal.returns-in-err-below
-returns-in-err-below g c =
+pub returns-in_err-below : goal.returns-in_err-below
+returns-in_err-below g c =
     let d = c.args.self.now in
     let b = g.U.Unit.meaning d.below in
     let s = odd_on b d.rows d.sum in
-    let refused = total_refused b (odd s) c.args.column _ (odd_columns s) (sym c.total.ensures ∙ c.in-err-below.was) in
-    let p = err_from_is_err_and c.from-residual.result c.from-residual.ensures.1 in
+    let refused = total_refused b (odd s) c.args.column _ (odd_columns s) (sym c.total.ensures ∙ c.in_err-below.was) in
+    let p = err_from_is_err_and c.from_residual.result c.from_residual.ensures.1 in
     rw (p.1, p.2) (sym refused)
 
 pub returns : goal.returns
@@ -24,10 +24,10 @@ returns g c =
     let b = g.U.Unit.meaning d.below in
     let s = odd_on b d.rows d.sum in
     let column = c.args.column in
-    let read = total_read b column _ (sym c.total.ensures ∙ c.in-ok-below.was) in
+    let read = total_read b column _ (sym c.total.ensures ∙ c.in_ok-below.was) in
     let hold_fits : SFits w64 c.hold.result = search rules in
     let law = g.met.U.Unit.lawful d.below in
-    let below = c.in-ok-below.below in
+    let below = c.in_ok-below.below in
     let below_fits : SFits w64 below = search rules in
     let sum_fits : SFits w64 d.sum = search rules in
     let difference_fits = difference_fits below d.sum (rw read.1 (total_bounded b law column)) (omega (arith, d.bounded, d.short)) in

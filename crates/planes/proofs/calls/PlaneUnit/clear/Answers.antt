@@ -4,10 +4,10 @@ use Rattle.planes.specs.Columns.{takes_odd}
 use Rattle.planes.specs.Powers.{plane_columns, plane_zeros, zero_eights, zero_bounded}
 use Rattle.planes.proofs.calls.PlaneUnit.clear.Goals as goal
 
-pub invariant-of-self : goal.invariant-of-self
-invariant-of-self c =
+pub invariant_of-self : goal.invariant_of-self
+invariant_of-self c =
     let u = c.args.self.now in
-    (refl, (zero_eights 16, (u.some, (u.few, (omega arith, (zero_bounded _ 16, tt))))))
+    record { wide = refl; eights = zero_eights 16; some = u.some; few = u.few; short = omega arith; bounded = zero_bounded _ 16 }
 
 pub returns : goal.returns
 returns c =

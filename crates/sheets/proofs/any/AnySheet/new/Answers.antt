@@ -10,10 +10,10 @@ use Rattle.sheets.specs.Meanings.{plane_meaning}
 use Rattle.sheets.specs.Packing.{page}
 use Rattle.sheets.proofs.any.AnySheet.new.Goals as goal
 
-pub returns-in-err-new-3 : goal.returns-in-err-new-3
-returns-in-err-new-3 c =
-    let p = err_from_is_err_and c.from-residual-in-err-new-3.result c.from-residual-in-err-new-3.ensures.1 in
+pub returns-in_err-new-in-Planes : goal.returns-in_err-new-in-Planes
+returns-in_err-new-in-Planes c =
+    let p = err_from_is_err_and c.from_residual-in_err-new-in-Planes.result c.from_residual-in_err-new-in-Planes.ensures.1 in
     let check : SheetCode → Option Refusal = λ code. making_check code c.args.rows c.args.columns (length c.args.bytes.now) in
     let code = Planes c.from.result in
-    let no = ap check (c.in-Planes.is ∙ ap Planes (sym c.from.ensures)) ∙ was_refused (check code) (λ (s : PlaneSheet). plane_meaning s ≡ page code c.args.rows c.args.columns c.args.bytes.now) _ c.in-err-new-3.ensures in
+    let no = ap check (c.in-Planes.is ∙ ap Planes (sym c.from.ensures)) ∙ was_refused (check code) (λ (s : PlaneSheet). plane_meaning s ≡ page code c.args.rows c.args.columns c.args.bytes.now) _ c.in_err-new-in-Planes.ensures in
     rw (p.1, p.2) (unmade (check c.args.code) _ _ no)

@@ -17,5 +17,5 @@ returns-in-Planes c =
     let places = mul-le c.args.rows c.args.columns 65535 255 (omega arith) (omega arith) in
     record {
       value = search rules;
-      bound = omega (arith, mul-le c.from-in-Planes.result c.div-ceil-in-Planes.result 255 2088929 (omega arith) (search rules));
+      bound = omega (arith, mul-le c.from-in-Planes.result c.div_ceil-in-Planes.result 255 2088929 (omega arith) (search rules));
     }

@@ -16,7 +16,7 @@ pub grow-requires : goal.grow-requires
 grow-requires c =
     let u = c.args.self.now in
     let a_fits = c.ranges.a in
-    let ok = accepted_at_ok (multiplier u) c.args.a c.args.weights.now a_fits c.in-ok-check.ensures in
+    let ok = accepted_at_ok (multiplier u) c.args.a c.args.weights.now a_fits c.in_ok-check.ensures in
     record {
       enough = omega (arith, ok.one_each, length-take u.columns u.sums);
       small = simp to_z-of_z ok.small;
@@ -24,21 +24,21 @@ grow-requires c =
       bounded = λ i. omega (arith, u.bounded i, u.short);
     }
 
-pub invariant-of-self : goal.invariant-of-self
-invariant-of-self c =
+pub invariant_of-self : goal.invariant_of-self
+invariant_of-self c =
     let u = c.args.self.now in
     let ws = c.args.weights.now in
-    let ok = accepted_at_ok (multiplier u) c.args.a ws c.ranges.a c.in-ok-check.ensures in
+    let ok = accepted_at_ok (multiplier u) c.args.a ws c.ranges.a c.in_ok-check.ensures in
     let grew = c.grow.ensures ∙ ap (λ a. grown u.sums a ws) (to_z-of_z w64 _ c.ranges.a) in
     let wide = ap length grew ∙ length_plus u.sums _ ∙ u.wide in
     let bounded : Bounded (reach (u.rows + 1)) c.grow.new.sums = rw grew (grown_bounded u.rows u.sums c.args.a ws u.bounded ok.small (light u c.args.a ws ok)) in
-    (wide, (u.some, (u.few, (omega (arith, ok.room), (bounded, tt)))))
+    record { wide = wide; some = u.some; few = u.few; short = omega (arith, ok.room); bounded = bounded }
 
 pub returns : goal.returns
 returns c =
     let u = c.args.self.now in
     let ws = c.args.weights.now in
-    let ok = accepted_at_ok (multiplier u) c.args.a ws c.ranges.a c.in-ok-check.ensures in
+    let ok = accepted_at_ok (multiplier u) c.args.a ws c.ranges.a c.in_ok-check.ensures in
     let grew = c.grow.ensures ∙ ap (λ a. grown u.sums a ws) (to_z-of_z w64 _ c.ranges.a) in
     let with_totals : List ℤ → Meaning = λ ts. record { rows = u.rows + 1; limit = 128; totals = ts; takes = takes_every } in
     record {
