@@ -31,8 +31,8 @@ loop-tile-preserved g c =
     let behind = c.split_at.ensures.back ∙ ap (λ n. drop n sheets) c.byte_length-size.ensures.value in
     let paged = c.sheet_of.ensures ∙ ap (page p.sheet (length tile.now) p.columns) (c.split_at.ensures.front ∙ ap (λ n. take n sheets) c.byte_length-size.ensures.value) in
     let items = pushed (feed ∷ []) refl c.in_ok-push.was c.push.ensures.items in (
-      tt,
       omega (arith, size),
+      tt,
       size,
       omega (arith, c.split_at.ensures.back_len, c.byte_length-size.ensures.value, c.loop-tile.invariant.3, bytes),
       λ f. ap (λ bs. events_of f (vec_items c.push.new.self) ++ feeds (sized p (length more)) (tile_of f more) bs) behind

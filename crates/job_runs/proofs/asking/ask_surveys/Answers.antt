@@ -12,10 +12,10 @@ use Rattle.job_runs.proofs.asking.ask_surveys.Goals as goal
 
 pub loop-tile-init : goal.loop-tile-init
 loop-tile-init g c =
-    let all = ap chunks_rest c.into_iter-tile-iterator.ensures.into_iter-gives ∙ c.chunks-tile-items.ensures.rest in
-    let size = ap chunks_size c.into_iter-tile-iterator.ensures.into_iter-gives ∙ c.chunks-tile-items.ensures.size in (
-      tt,
+    let all = ap chunks_rest c.into_iter-tile-iterator.ensures.into_iter_gives ∙ c.chunks-tile-items.ensures.rest in
+    let size = ap chunks_size c.into_iter-tile-iterator.ensures.into_iter_gives ∙ c.chunks-tile-items.ensures.size in (
       omega (arith, size),
+      tt,
       size,
       λ f. ap (λ cs. events_of f cs ++ surveys (tile_of f (chunks_rest c.into_iter-tile-iterator.result))) c.new-calls.ensures.items ∙ ap (λ ws. surveys (tile_of f ws)) all,
     )
@@ -27,8 +27,8 @@ loop-tile-preserved g c =
     let size = c.in-Some.ensures.steps.0 ∙ c.loop-tile.invariant.2 in
     let parts = c.in-Some.ensures.steps.1 in
     let items = pushed (call.Survey tile ∷ []) refl c.in_ok-push.was c.push.ensures.items in (
-      tt,
       omega (arith, size),
+      tt,
       size,
       λ f. surveys_on f (chunks_rest c.loop-tile.tile-iterator) tile.now (chunks_rest c.next.new.self) (chunks_size c.loop-tile.tile-iterator) parts.0 parts.1 c.loop-tile.invariant.2 parts.2
           (events_of f (vec_items old)) (events_of f (vec_items c.push.new.self)) (ap (events_of f) items ∙ map_push (event_of f any_meaning) (vec_items old) (call.Survey tile))

@@ -11,10 +11,10 @@ use Rattle.jobs.proofs.survey.survey_tiles.Goals as goal
 pub loop-tile-init : goal.loop-tile-init
 loop-tile-init g c =
     let f = g.F.Format.meaning c.args.format.now in
-    let all = sym (ap chunks_rest c.into_iter-tile-iterator.ensures.into_iter-gives ∙ c.chunks-tile-items.ensures.rest) in
-    let size = ap chunks_size c.into_iter-tile-iterator.ensures.into_iter-gives ∙ c.chunks-tile-items.ensures.size in (
-      tt,
+    let all = sym (ap chunks_rest c.into_iter-tile-iterator.ensures.into_iter_gives ∙ c.chunks-tile-items.ensures.rest) in
+    let size = ap chunks_size c.into_iter-tile-iterator.ensures.into_iter_gives ∙ c.chunks-tile-items.ensures.size in (
       omega (arith, size),
+      tt,
       size,
       ap (λ ws. tiles_check 0 (map f.decode ws)) all,
       ap (λ m. largest m (map f.decode c.args.words.now)) (sym c.least-shared.ensures) ∙ ap (λ ws. largest c.least-shared.result.exponent (map f.decode ws)) all,
@@ -39,8 +39,8 @@ loop-tile-preserved g c =
     let size = c.in-Some.ensures.steps.0 ∙ c.loop-tile.invariant.2 in
     let parts = c.in-Some.ensures.steps.1 in
     let ok = was_made (survey_check (map f tile)) _ _ c.in_ok-shared.ensures.made in (
-      tt,
       omega (arith, size),
+      tt,
       size,
       c.loop-tile.invariant.3 ∙ next_passed f rest tile more (chunks_size c.loop-tile.tile-iterator) parts.0 parts.1 c.loop-tile.invariant.2 ok.0,
       c.loop-tile.invariant.4 ∙ next_largest f rest tile more (chunks_size c.loop-tile.tile-iterator) parts.0 parts.1 c.loop-tile.invariant.2 c.loop-tile.shared.exponent
