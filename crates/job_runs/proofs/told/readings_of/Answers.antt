@@ -21,7 +21,7 @@ loop-answer-preserved c =
           (sym next.0 ∙ c.loop-answer.invariant.0, ap (λ v. vec_items v ++ readings (drop (i + 1) answers)) w.all-is ∙ ap (λ rs. vec_items c.loop-answer.all ++ rs) (sym next.1) ∙ c.loop-answer.invariant.1)
       | in-Read+in_ok-push-in-Read w ↦
           let next = after_read answers i c.loop-answer-test.true w.in-Read.reading w.in-Read.is in
-          let items = ap vec_items w.all-is ∙ pushed (w.in-Read.reading ∷ []) refl w.in_ok-push.was w.push.ensures.items in
+          let items = ap vec_items w.all-is ∙ pushed (w.in-Read.reading ∷ []) refl w.in_ok-push-in-Read.was w.push.ensures.items in
           (sym next.0 ∙ c.loop-answer.invariant.0, one_taken (vec_items c.loop-answer.all) (vec_items c.match-answer.all) (readings (drop (i + 1) answers)) (readings (drop i answers)) (readings answers) w.in-Read.reading items next.1 c.loop-answer.invariant.1)
     ]
 
