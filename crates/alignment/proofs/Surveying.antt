@@ -2,7 +2,7 @@
 use Rattle.std.proofs.Common.{◌≡◌, ℕ, suc, ◌+◌, ◌<◌, ◌≤◌, ◌⊎◌, List, [], ◌∷◌, map, length, get_or, drop, ℤ, pos, neg_ℤ, ◌≤ℤ◌, IfSome, Some, None, Option, sym, refl, ap, ◌∙◌, inl, inr, ⊎_elim, arith}
 use lib.Signed.{lt_z}
 use Rattle.std.specs.Int.{int_max}
-use Rattle.std.specs.List.{ContainsAt as Has}
+use Rattle.std.specs.List.{ContainsAt}
 use Rattle.std.proofs.lemmas.List.{drop_more, drop-map, drop_all, length-map}
 use Rattle.std.proofs.lemmas.Int.{ints, clamps}
 use Rattle.std.proofs.lemmas.Bool.{lt-ltb, le-ltb, cond_both}
@@ -53,7 +53,7 @@ max_either m e = cond_both (lt_z e m) m e (λ z. (z ≡ m) ⊎ (z ≡ e)) (λ _.
 trans : (a b c : ℤ) → a ≤ℤ b → b ≤ℤ c → a ≤ℤ c
 trans a b c p q = omega (arith, ints)
 
-has_later : {X : Type 0} (x y : X) (xs : List X) → Has xs x → Has (y ∷ xs) x
+has_later : {X : Type 0} (x y : X) (xs : List X) → ContainsAt xs x → ContainsAt (y ∷ xs) x
 has_later x y xs h = (suc h.0, omega (arith, h.1), h.2)
 
 pub is_largest : (m : ℤ) (ts : Tile) → Largest m ts (largest m ts)
@@ -68,7 +68,7 @@ is_largest m (None ∷ ts) =
 is_largest m (Some d ∷ ts) =
     let top = largest (int_max m d.2) ts in
     let rest = is_largest (int_max m d.2) ts in
-    let here : top ≡ d.2 → (top ≡ m) ⊎ ((e : Decoded) × (Has (Some d ∷ ts) (Some e) × (e.2 ≡ top))) = λ is. inr (d, ((0, omega arith, λ _. refl), sym is)) in
+    let here : top ≡ d.2 → (top ≡ m) ⊎ ((e : Decoded) × (ContainsAt (Some d ∷ ts) (Some e) × (e.2 ≡ top))) = λ is. inr (d, ((0, omega arith, λ _. refl), sym is)) in
     record {
       from = trans m (int_max m d.2) top (max_left m d.2) rest.from;
       above = (trans d.2 (int_max m d.2) top (max_right m d.2) rest.from, rest.above);

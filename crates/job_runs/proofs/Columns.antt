@@ -1,6 +1,6 @@
 -- Where no call of a job is refused, its readings are those of the job's own terms, column by column.
 use Rattle.std.proofs.Common.{◌≡◌, ℕ, zero, suc, ◌+◌, ◌*◌, ◌<◌, ◌≤◌, true, List, ◌∷◌, ◌++◌, map, length, pos, ◌-ℤ◌, Some, None, Option, sym, refl, ap, ◌∙◌, arith, pow_pos}
-use Rattle.std.specs.List.{range_with_len, AllByRecursion as All}
+use Rattle.std.specs.List.{range_with_len, AllByRecursion}
 use Rattle.std.proofs.lemmas.Bool.{lt-leb}
 use Rattle.refusals.specs.declared.Refusal.{Refusal}
 use Rattle.refusals.specs.declared.Refusal.TheVariants.{NoSuchColumn}
@@ -61,7 +61,7 @@ lines_map : (f : ℕ → Reading) (a n : ℕ) → lines_from a (map f (range_wit
 lines_map f a zero = refl
 lines_map f a (suc n) = ap (λ ls. line_of a (f a) ∷ ls) (lines_map f (a + 1) n)
 
-all_map : {X : Type 0} (P : X → Type 0) (f : ℕ → X) (a n : ℕ) → ((k : ℕ) → P (f k)) → All P (map f (range_with_len a n))
+all_map : {X : Type 0} (P : X → Type 0) (f : ℕ → X) (a n : ℕ) → ((k : ℕ) → P (f k)) → AllByRecursion P (map f (range_with_len a n))
 all_map P f a zero each = tt
 all_map P f a (suc n) each = (each a, all_map P f (a + 1) n each)
 
@@ -71,7 +71,7 @@ module _ (p : Plan) (words : Tile) (sheets : List ℕ) where
   job_reading c = figures (total (job_step p words) (job_terms p words sheets c)) (slack (job_step p words) (job_terms p words sheets c)) (shared_of p words -ℤ pos p.extra)
 
   -- every line tells where its column's exact sum lies
-  pub lines_tell : (a n : ℕ) → All (Told p words sheets) (map (job_line p words sheets) (range_with_len a n))
+  pub lines_tell : (a n : ℕ) → AllByRecursion (Told p words sheets) (map (job_line p words sheets) (range_with_len a n))
   lines_tell a n = all_map (Told p words sheets) (job_line p words sheets) a n (λ c. tells (job_step p words) (job_terms p words sheets c) (pow_pos _))
 
   -- the log after the surveys, and after the run is aligned

@@ -2,7 +2,7 @@
 -- weight that the unit does not take.
 use Rattle.std.proofs.Common.{◌≡◌, ℕ, zero, suc, ◌+◌, ◌-◌, ◌*◌, ◌/◌, ◌%◌, ◌≤◌, min, false, List, [], ◌∷◌, ◌++◌, map, length, drop, ℤ, ◌≤ℤ◌, IfSome, Some, None, Option, sym, refl, ap, ◌∙◌, add-zero, arith}
 use lib.Signed.{lt_z}
-use Rattle.std.specs.List.{range_with_len, AllByRecursion as All}
+use Rattle.std.specs.List.{range_with_len, AllByRecursion}
 use Rattle.std.proofs.ByRecursion.{All-take, All-drop}
 use Rattle.std.proofs.lemmas.List.{length-append, length-take, length-drop, drop_all}
 use Rattle.std.proofs.lemmas.Int.{ints}
@@ -90,13 +90,13 @@ surveys_refused l words tile (suc count) h =
 -- ---- words that the surveys found finite
 -- every word is finite, and its exponent is not above the shared one
 abbrev Lined : ℤ → Tile → Type 0
-Lined shared words = All (λ word. (row : ℕ) → word_check shared row word ≡ None) words
+Lined shared words = AllByRecursion (λ word. (row : ℕ) → word_check shared row word ≡ None) words
 
 le_int_lt : (a b : ℤ) → b ≤ℤ a → lt_z a b ≡ false
 le_int_lt a b h = grind (arith, ints)
 
 -- words that are finite are lined up by their largest exponent
-lined : (shared : ℤ) (row : ℕ) (words : Tile) → words_check row words ≡ None → All (λ word. IfSome word (λ d. d.2 ≤ℤ shared)) words → Lined shared words
+lined : (shared : ℤ) (row : ℕ) (words : Tile) → words_check row words ≡ None → AllByRecursion (λ word. IfSome word (λ d. d.2 ≤ℤ shared)) words → Lined shared words
 lined shared row [] e above = tt
 lined shared row (None ∷ words) e above = absurd (none_some e refl)
 lined shared row (Some d ∷ words) e above = (λ r. ap (λ b. refuse b (AboveShared r)) (le_int_lt shared d.2 above.0), lined shared (row + 1) words e above.1)

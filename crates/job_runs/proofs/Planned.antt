@@ -1,6 +1,6 @@
 -- A job that was read: its plan is fair, and its words are one for each row.
 use Rattle.std.proofs.Common.{◌≡◌, ℕ, zero, suc, ◌*◌, ◌/◌, ◌≤◌, Bool, true, false, cond, not, ◌||◌, eqb, ltb, List, [], ◌∷◌, length, drop, is_some, Some, None, Ok, Err, Option, Result, sym, refl, ap, ◌∙◌, subst, arith}
-use Rattle.std.specs.List.{AllByRecursion as All}
+use Rattle.std.specs.List.{AllByRecursion}
 use Rattle.std.proofs.lemmas.List.{length-map}
 use Rattle.std.proofs.lemmas.Bool.{ltb-false}
 use Rattle.refusals.specs.declared.Refusal.{Refusal}
@@ -63,7 +63,7 @@ with_some_parts : {A B : Type 0} (o : Option A) (f : A → Option B) (y : B) →
 with_some_parts None f y e = let z : ◌≡◌ {A = ℕ} 0 1 = cc in absurd (omega arith)
 with_some_parts (Some x) f y e = (x, refl, e)
 
-coded_in : {C : Type 0} (P : C → Type 0) (number : C → ℕ) (codes : List C) (n : ℕ) (c : C) → All P codes → coded number codes n ≡ Some c → P c
+coded_in : {C : Type 0} (P : C → Type 0) (number : C → ℕ) (codes : List C) (n : ℕ) (c : C) → AllByRecursion P codes → coded number codes n ≡ Some c → P c
 coded_in P number [] n c all e = let z : ◌≡◌ {A = ℕ} 0 1 = cc in absurd (omega arith)
 coded_in {C} P number (d ∷ codes) n c all e = by (eqb n (number d)) e (coded_in P number codes n c all.1)
   where

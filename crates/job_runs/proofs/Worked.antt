@@ -2,7 +2,7 @@
 use Rattle.std.proofs.Common.{◌≡◌, ℕ, ◌≤◌, true, false, List, length, ℤ, Some, None, Ok, Err, vec_items, Result, Vec, sym, refl, ap, ◌∙◌, subst, arith}
 use Rattle.std.proofs.lemmas.List.FromFn.{length-map-range_with_len}
 use Rattle.std.proofs.lemmas.Bool.Decides.{nat_tests}
-use Rattle.std.specs.List.{AllByRecursion as All}
+use Rattle.std.specs.List.{AllByRecursion}
 use Rattle.std.specs.declared.alloc.Global.{Global}
 use Rattle.refusals.specs.declared.Refusal.{Refusal}
 use Rattle.refusals.specs.Columns.{columns_check}
@@ -92,5 +92,5 @@ module _ {F U W : Type 0} (coding : F → Coding W) (meaning : U → Meaning) (o
               made (first_refusal (job_answers p tile sheets)) _ _ none (record {
                 headed = ap (λ (z : ℤ). record { rows = p.rows; shared = z; extra = p.extra }) (is_shared ∙ as_worked.holds.shared ∙ last_shared p tile sheets none);
                 lines = ours;
-                told = subst (λ (ls : List Line). All (Told p tile sheets) ls) (sym ours) (lines_tell p tile sheets 0 p.columns);
+                told = subst (λ (ls : List Line). AllByRecursion (Told p tile sheets) ls) (sym ours) (lines_tell p tile sheets 0 p.columns);
               })

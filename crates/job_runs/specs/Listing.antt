@@ -1,6 +1,6 @@
 -- What a file is listed as: why it is refused, or its header and a line for each column.
 use Rattle.std.specs.Prelude.{◌≡◌, ℕ, List, map, ℤ, pos, ◌-ℤ◌, Some, vec_items, Option}
-use Rattle.std.specs.List.{range_with_len, AllByRecursion as All}
+use Rattle.std.specs.List.{range_with_len, AllByRecursion}
 use Rattle.refusals.specs.declared.Refusal.{Refusal}
 use Rattle.refusals.specs.Refusing.{first}
 use Rattle.sums.specs.Terms.{step_of, total, slack, exact}
@@ -48,7 +48,7 @@ Told p words sheets line = Tells (job_step p words) line.total line.slack (exact
 pub record Lists (p : Plan) (words : Tile) (sheets : List ℕ) (listing : Listing) : Type 0 where
   pub headed : listing.header ≡ job_header p words
   pub lines : vec_items listing.lines ≡ map (job_line p words sheets) (range_with_len 0 p.columns)
-  pub told : All (Told p words sheets) (vec_items listing.lines)
+  pub told : AllByRecursion (Told p words sheets) (vec_items listing.lines)
 
 -- the listing of the plan that the file's trailer asks for
 abbrev pub ListingOf : List ℕ → Listing → Type 0

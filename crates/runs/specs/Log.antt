@@ -1,7 +1,7 @@
 -- The log of a run: what it was given since opening or clear. Each call changes the log in the words of the subject, and a
 -- run holds just what its log says.
 use Rattle.std.specs.Prelude.{◌≡◌, ℕ, ◌<◌, ◌≤◌, Bool, true, false, List, [], ◌++◌, map, length, get_or, ℤ, pos, ◌-ℤ◌, None, Option, slice_index, slice_index_or}
-use Rattle.std.specs.List.{AllByRecursion as All}
+use Rattle.std.specs.List.{AllByRecursion}
 use Rattle.refusals.specs.declared.Refusal.{Refusal}
 use Rattle.refusals.specs.Refusing.{unless}
 use Rattle.sums.specs.Terms.{Term, step_of, total, slack, exact}
@@ -98,8 +98,8 @@ pub record Holds (l : Log) (s : State) : Type 0 where
 pub record Promised (l : Log) (s : State) (c : ℕ) : Type 0 where
   pub tells : Tells (step l) (slice_index_or s.unit.totals c (pos 0)) (slice_index s.slacks c) (exact (terms l c))
   pub lost_weight : get_or s.slacks c 0 ≡ slack (step l) (terms l c)
-  pub none_lost : get_or s.slacks c 0 ≡ 0 → All (Harmless (step l)) (terms l c)
-  pub no_slack : All (Harmless (step l)) (terms l c) → slice_index s.slacks c ≡ 0
+  pub none_lost : get_or s.slacks c 0 ≡ 0 → AllByRecursion (Harmless (step l)) (terms l c)
+  pub no_slack : AllByRecursion (Harmless (step l)) (terms l c) → slice_index s.slacks c ≡ 0
 
 -- the promise holds in every column
 abbrev pub Sound : Log → State → Type 0

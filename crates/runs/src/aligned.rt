@@ -6,7 +6,7 @@ ghost use Rattle.sums.specs.Laws.{Tells};
 ghost use Rattle.units.specs.Meaning.{column_check, columns_of};
 ghost use Rattle.rounding.specs.Nearest.{Nearest};
 ghost use Rattle.runs.specs.State.{reading, restarted};
-ghost use Rattle.runs.specs.Log.{Holds, Log, Logged, step as step-of-log, terms};
+ghost use Rattle.runs.specs.Log.{Holds, Log, Logged, step as step_of_log, terms};
 ghost use Rattle.runs.specs.Log as log;
 ghost use Rattle.runs.specs.Runs.{aligned, surveying};
 
@@ -22,7 +22,7 @@ impl<F: Format, U: Unit> AlignedRun<F, U> {
     pub fn read(&self, column: usize) -> Result<Reading, Refusal>
         ensures answers { result ≡ answer (column_check (columns_of (U.Unit.meaning self.now.unit)) column) (reading (aligned F.Format.meaning U.Unit.meaning self.now) column) }
         ensures nearest { IfOk result (λ x. Nearest x.total x.exponent x.word) }
-        ensures tells { IfOk result (λ x. (l : Log) → Holds l (aligned F.Format.meaning U.Unit.meaning self.now) → Tells (step-of-log l) x.total x.slack (exact (terms l column))) }
+        ensures tells { IfOk result (λ x. (l : Log) → Holds l (aligned F.Format.meaning U.Unit.meaning self.now) → Tells (step_of_log l) x.total x.slack (exact (terms l column))) }
     {
         let total = self.unit.total(column)?;
         let exponent = self.step.exponent();

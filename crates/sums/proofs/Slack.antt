@@ -2,7 +2,7 @@
 use Rattle.std.proofs.Common.{◌≡◌, ℕ, ◌+◌, ◌-◌, ◌*◌, ◌%◌, ◌<◌, ◌≤◌, Bool, true, false, cond, not, T, eqb, List, [], ◌∷◌, ℤ, pos, ◌+ℤ◌, ◌-ℤ◌, ◌*ℤ◌, nat_abs, sym, refl, ap, ◌∙◌, mod-lt, mul_comm, add-mul, mul-le-mul_left, mul-add, arith}
 use lib.Signed.{rem_z}
 use borrow.Author.Differences.{ints}
-use Rattle.std.specs.List.{AllByRecursion as All}
+use Rattle.std.specs.List.{AllByRecursion}
 use Rattle.std.proofs.lemmas.Bool.{eqb-true}
 use Rattle.sums.specs.Terms.{Term, cut, lost, loss, total, slack, exact}
 use Rattle.sums.specs.Laws.{Tells, Harmless}
@@ -56,10 +56,10 @@ no_loss : (s : ℕ) (t : Term) (b : Bool) → (T b → t.weight ≡ pos 0) → c
 no_loss s t true h = ap nat_abs (h tt)
 no_loss s t false h = refl
 
-pub none_lost : (s : ℕ) (ts : List Term) → slack s ts ≡ 0 → All (Harmless s) ts
+pub none_lost : (s : ℕ) (ts : List Term) → slack s ts ≡ 0 → AllByRecursion (Harmless s) ts
 none_lost s [] e = tt
 none_lost s (t ∷ ts) e = (harmless s t (lost s t.value) refl (omega arith), none_lost s ts (omega arith))
 
-pub none_slack : (s : ℕ) (ts : List Term) → All (Harmless s) ts → slack s ts ≡ 0
+pub none_slack : (s : ℕ) (ts : List Term) → AllByRecursion (Harmless s) ts → slack s ts ≡ 0
 none_slack s [] h = refl
 none_slack s (t ∷ ts) h = omega (arith, no_loss s t (lost s t.value) h.0, none_slack s ts h.1)

@@ -1,6 +1,6 @@
 -- The laws of total, slack and exact sum.
 use Rattle.std.specs.Prelude.{◌≡◌, ℕ, ◌*◌, ◌<◌, T, List, ℤ, pos, ◌-ℤ◌, ◌*ℤ◌, unsigned_abs}
-use Rattle.std.specs.List.{AllByRecursion as All}
+use Rattle.std.specs.List.{AllByRecursion}
 use Rattle.sums.specs.Terms.{Term, total, slack, exact, lost, count}
 
 -- A total and a slack tell where an exact sum lies: at the total where the slack is 0, and otherwise less than slack steps
@@ -19,7 +19,7 @@ Harmless s t = T (lost s t.value) → t.weight ≡ pos 0
 
 -- the slack is 0 exactly when no term with a weight other than 0 was lost
 abbrev pub ZeroSlack : Type 0
-ZeroSlack = (s : ℕ) (ts : List Term) → (slack s ts ≡ 0 → All (Harmless s) ts) × (All (Harmless s) ts → slack s ts ≡ 0)
+ZeroSlack = (s : ℕ) (ts : List Term) → (slack s ts ≡ 0 → AllByRecursion (Harmless s) ts) × (AllByRecursion (Harmless s) ts → slack s ts ≡ 0)
 
 -- two lists have the same terms, each as often
 abbrev pub SameTerms : List Term → List Term → Type 0
