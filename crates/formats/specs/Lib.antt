@@ -3,4 +3,4 @@ pub mod Interchange
 pub mod Fixed
 pub mod Agreement
 pub mod Counting
-pub mod InterchangeLemmas
+pub mod Lawful

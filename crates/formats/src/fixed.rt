@@ -2,7 +2,7 @@
 ghost use Rattle.std.specs.Prelude.{◌≡◌, ℤ, pos, neg_ℤ, ◌≤ℤ◌};
 ghost use Rattle.refusals.specs.Refusing.{Made};
 ghost use Rattle.formats.specs.Fixed.{fixed, power_check};
-ghost use Rattle.std.proofs.Common.{rules, arith};
+ghost use Rattle.formats.specs.Lawful.{fixed_lawful};
 
 use crate::Format;
 use refusals::Refusal;
@@ -35,7 +35,7 @@ impl Format for Fixed8 {
 
     ghost meaning = { λ f. fixed f.power };
 
-    ghost lawful = { first_of (Prim.search rules, Prim.grind (arith, Self.row.coded.inj)) };
+    ghost lawful = { λ f. fixed_lawful f.power f.low f.high };
 
     fn precision(&self) -> u32 {
         PRECISION

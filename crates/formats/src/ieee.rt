@@ -5,7 +5,7 @@ ghost use Rattle.formats.specs.Interchange.{coding, interchange};
 ghost use Rattle.formats.specs.Agreement.{Same, Widened};
 ghost use Rattle.formats.specs.Counting.{WordsCountUp};
 ghost use Rattle.std.proofs.Common.{lit≤};
-ghost use Rattle.formats.specs.InterchangeLemmas as Interchange;
+ghost use Rattle.formats.specs.Lawful.{layout_lawful};
 
 use crate::Format;
 use crate::layout::Layout;
@@ -24,7 +24,7 @@ impl Format for Binary16 {
 
     ghost meaning = { λ _. coding 5 10 };
 
-    ghost lawful = { λ f. Interchange.lawful 5 10 (lit≤ tt) (lit≤ tt) (lit≤ tt) (lit≤ tt) };
+    ghost lawful = { λ f. layout_lawful 5 10 (lit≤ tt) (lit≤ tt) (lit≤ tt) (lit≤ tt) };
 
     fn precision(&self) -> u32 {
         HALF.precision()
@@ -57,7 +57,7 @@ impl Format for Bfloat16 {
 
     ghost meaning = { λ _. coding 8 7 };
 
-    ghost lawful = { λ f. Interchange.lawful 8 7 (lit≤ tt) (lit≤ tt) (lit≤ tt) (lit≤ tt) };
+    ghost lawful = { λ f. layout_lawful 8 7 (lit≤ tt) (lit≤ tt) (lit≤ tt) (lit≤ tt) };
 
     fn precision(&self) -> u32 {
         UPPER_HALF.precision()
@@ -94,7 +94,7 @@ impl Format for Binary32 {
 
     ghost meaning = { λ _. coding 8 23 };
 
-    ghost lawful = { λ f. Interchange.lawful 8 23 (lit≤ tt) (lit≤ tt) (lit≤ tt) (lit≤ tt) };
+    ghost lawful = { λ f. layout_lawful 8 23 (lit≤ tt) (lit≤ tt) (lit≤ tt) (lit≤ tt) };
 
     fn precision(&self) -> u32 {
         SINGLE.precision()

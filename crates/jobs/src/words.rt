@@ -1,7 +1,7 @@
 // Words out of bytes, the lowest byte first.
 ghost use Rattle.std.specs.Prelude.{◌≡◌, ℕ, ◌+◌, ◌*◌, ◌≤◌, List, length, take, drop, IfOk};
 ghost use Rattle.jobs.specs.Words.{little, words_in, whole_words};
-ghost use Rattle.std.proofs.Common.{rules};
+ghost use Rattle.std.proofs.Common.{lit≤};
 
 use std::alloc::{AllocError, Global};
 
@@ -28,7 +28,7 @@ impl Word for u8 {
 
     ghost spelled = { little };
 
-    ghost some = { Prim.search rules };
+    ghost some = { lit≤ tt };
 
     fn size() -> usize {
         1
@@ -44,7 +44,7 @@ impl Word for u16 {
 
     ghost spelled = { little };
 
-    ghost some = { Prim.search rules };
+    ghost some = { lit≤ tt };
 
     fn size() -> usize {
         2
@@ -60,7 +60,7 @@ impl Word for u32 {
 
     ghost spelled = { little };
 
-    ghost some = { Prim.search rules };
+    ghost some = { lit≤ tt };
 
     fn size() -> usize {
         4

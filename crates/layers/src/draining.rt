@@ -3,7 +3,7 @@ ghost use Rattle.std.specs.Prelude.{◌≡◌, ◌+◌, ◌≤◌, length};
 ghost use Rattle.refusals.specs.Refusing.{verdict};
 ghost use Rattle.units.specs.Meaning.{Bounded, reach, columns_of, plus_each, add_check, after_add, cleared};
 ghost use Rattle.layers.specs.Drain.{DrainUnclamped, DrainSingle, drain_holds, drain_made, drain, fresh_drain, room_made, drain_add, drain_clear, drain_on};
-ghost use Rattle.layers.specs.DrainSteps.{drain_lawful};
+ghost use Rattle.layers.specs.Lawful.{drain_lawful};
 
 use crate::{Drain, hold};
 use refusals::Refusal;

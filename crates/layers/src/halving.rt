@@ -4,7 +4,7 @@ ghost use Rattle.std.specs.Prelude.{◌≡◌, ◌≤◌, map, length, take};
 ghost use Rattle.refusals.specs.Refusing.{verdict};
 ghost use Rattle.units.specs.Meaning.{Bounded, add_check, after_add, cleared};
 ghost use Rattle.layers.specs.Odd.{OddUnclamped, OddSingle, odd_of, odd_holds, odd_made, odd, fresh_odd, odd_add, odd_clear, odd_on};
-ghost use Rattle.layers.specs.OddSteps.{odd_lawful};
+ghost use Rattle.layers.specs.Lawful.{odd_lawful};
 
 use crate::{Odd, hold};
 use refusals::Refusal;

@@ -1,3 +1,3 @@
 pub mod Columns
 pub mod Plane
-pub mod Powers
+pub mod Lawful

@@ -5,10 +5,7 @@ ghost use Rattle.refusals.specs.Refusing.{Made, verdict, unless};
 ghost use Rattle.units.specs.Meaning.{Bounded, plus_each, add_check, after_add, cleared};
 ghost use Rattle.planes.specs.Columns.{EachBounded, SignsWeigh, code, signed, signs, weigh, spread};
 ghost use Rattle.planes.specs.Plane.{plane, fresh_plane};
-ghost use Rattle.std.proofs.Common.{arith};
-ghost use Rattle.std.proofs.lemmas.Bool.{and_parts, leb-true};
-ghost use Rattle.units.specs.Checks.{true_from_T};
-ghost use Rattle.planes.specs.Powers.{plane_columns, plane_bounded};
+ghost use Rattle.planes.specs.Lawful.{plane_lawful};
 
 use crate::Plane;
 use refusals::Refusal;
@@ -90,17 +87,7 @@ impl Plane {
 impl Unit for Plane {
     ghost meaning = { plane };
 
-    ghost lawful = { λ u.
-        let counted = plane_columns u.columns u.sums (omega (arith, u.wide, u.few)) in
-        record {
-          some_column = omega (arith, counted, u.some);
-          few_columns = omega (arith, counted, u.few);
-          some_row = omega arith;
-          few_rows = omega arith;
-          within = u.short;
-          taken = λ w t. leb-true (unsigned_abs w) 255 (and_parts _ _ (true_from_T _ t)).0;
-          bounded = plane_bounded u.columns u.rows u.sums u.eights u.bounded;
-        } };
+    ghost lawful = { plane_lawful };
 
     fn columns(&self) -> usize {
         self.columns

@@ -5,7 +5,7 @@ use Rattle.std.proofs.lemmas.List.{get_or_past}
 use Rattle.std.proofs.lemmas.Bool.{cases_lt}
 use Rattle.refusals.specs.declared.Refusal.TheVariants.{WeightNotTakenAt}
 use Rattle.units.specs.Meaning.{Meaning, columns_of, untaken, added, after_add}
-use Rattle.units.specs.Checks.{leaves_added, taken_each}
+use Rattle.units.proofs.Checks.{leaves_added, taken_each}
 use Rattle.runs.specs.State.{State, put, widened}
 
 -- ---- slacks

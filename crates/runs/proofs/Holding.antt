@@ -11,7 +11,7 @@ use Rattle.sums.proofs.Slack.{tells, none_lost, none_slack}
 use Rattle.alignment.specs.Tile.{Tile, survey_check, largest}
 use Rattle.sheets.specs.Page.{Page}
 use Rattle.units.specs.Meaning.{Meaning, columns_of, grown, cleared}
-use Rattle.units.specs.Reach.{length_plus, get_or_plus, get_or_scaled}
+use Rattle.units.proofs.Reach.{length_plus, get_or_plus, get_or_scaled}
 use Rattle.runs.specs.Checks.{Setting, setting, feed_check}
 use Rattle.runs.specs.State.{State, Row, setting_of, step_size, opened, surveyed, fed, fed_check, restarted, widened, put, add_row, rows_of}
 use Rattle.runs.specs.Log.{Log, survey, feed, clear, empty, raised, with_rows, refusal, after, term_at, terms, step, Holds, Logged, Sound}

@@ -1,4 +1,3 @@
 pub mod Meaning
 pub mod Multiplier
-pub mod Checks
-pub mod Reach
+pub mod Lawful

@@ -4,11 +4,7 @@ ghost use Rattle.refusals.specs.Columns.{columns_check};
 ghost use Rattle.refusals.specs.Refusing.{Made};
 ghost use Rattle.units.specs.Meaning.{Bounded, reach, grown};
 ghost use Rattle.units.specs.Multiplier.{multiplier, fresh_multiplier};
-ghost use Rattle.std.proofs.Common.{arith};
-ghost use Rattle.std.proofs.lemmas.List.{length-take};
-ghost use Rattle.units.specs.Checks.{true_from_T};
-ghost use Rattle.units.specs.Reach.{take_bounded};
-ghost use Rattle.std.proofs.lemmas.Bool.{leb-true};
+ghost use Rattle.units.specs.Lawful.{multiplier_lawful};
 
 use crate::{Multiplier, Unit};
 use refusals::Refusal;
@@ -57,17 +53,7 @@ impl Multiplier {
 impl Unit for Multiplier {
     ghost meaning = { multiplier };
 
-    ghost lawful = { λ u.
-        let counted : length (take u.columns u.sums) ≡ u.columns = simp length-take (omega (arith, u.wide, u.few)) in
-        record {
-          some_column = omega (arith, counted, u.some);
-          few_columns = omega (arith, counted, u.few);
-          some_row = omega arith;
-          few_rows = omega arith;
-          within = u.short;
-          taken = λ w t. leb-true _ _ (true_from_T _ t);
-          bounded = take_bounded _ _ u.sums u.bounded;
-        } };
+    ghost lawful = { multiplier_lawful };
 
     fn columns(&self) -> usize {
         self.columns

@@ -2,7 +2,7 @@ use Rattle.std.proofs.Common.{◌≡◌, pos, neg_ℤ, ◌∙◌, arith, w64, SF
 use Rattle.std.proofs.lemmas.Int.{ints, clamps, to_z-of_z}
 use Rattle.std.specs.Int.{int_max, int_min}
 use Rattle.units.specs.Meaning.{reach}
-use Rattle.layers.specs.Shown.{held_clamped}
+use Rattle.layers.proofs.Shown.{held_clamped}
 use Rattle.layers.proofs.hold.Goals as goal
 
 pub returns : goal.returns

@@ -1,8 +1,8 @@
 use Rattle.std.proofs.Common.{◌≡◌, ◌+◌, length, sym, ap, ◌∙◌, arith}
 use Rattle.std.proofs.lemmas.Bool.{cond-true, eq-eqb}
 use Rattle.units.specs.Meaning.{Bounded, reach}
-use Rattle.units.specs.Reach.{length_plus, plus_bounded}
-use Rattle.layers.specs.DrainSteps.{on_alike}
+use Rattle.units.proofs.Reach.{length_plus, plus_bounded}
+use Rattle.layers.proofs.DrainSteps.{on_alike}
 use Rattle.layers.proofs.Drain.make_room.Goals as goal
 
 pub invariant_of-self : goal.invariant_of-self

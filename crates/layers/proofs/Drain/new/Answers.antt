@@ -1,6 +1,6 @@
 use Rattle.std.proofs.Common.{replicate, pos, ap, ◌∙◌}
 use Rattle.layers.specs.Drain.{drain, drain_on}
-use Rattle.layers.specs.DrainSteps.{drain_new, drain_unclamped, drain_single}
+use Rattle.layers.proofs.DrainSteps.{drain_new, drain_unclamped, drain_single}
 use Rattle.layers.proofs.Drain.new.Goals as goal
 
 pub returns : goal.returns

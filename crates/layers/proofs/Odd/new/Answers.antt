@@ -1,6 +1,6 @@
 use Rattle.std.proofs.Common.{pos, ap, ◌∙◌}
 use Rattle.layers.specs.Odd.{odd, odd_on}
-use Rattle.layers.specs.OddSteps.{odd_new, odd_unclamped, odd_single}
+use Rattle.layers.proofs.OddSteps.{odd_new, odd_unclamped, odd_single}
 use Rattle.layers.proofs.Odd.new.Goals as goal
 
 pub returns : goal.returns

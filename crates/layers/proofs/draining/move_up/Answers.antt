@@ -2,8 +2,8 @@ use Rattle.std.proofs.Common.{◌≡◌, ◌≤◌, length, get_or, pos, Ok, sym
 use Rattle.std.proofs.lemmas.List.{take_all}
 use Rattle.std.proofs.lemmas.Int.{to_z-of_z}
 use Rattle.units.specs.Meaning.{plus_each, total_at}
-use Rattle.units.specs.Reach.{sum_fits, plus_nil}
-use Rattle.layers.specs.DrainSteps.{moved}
+use Rattle.units.proofs.Reach.{sum_fits, plus_nil}
+use Rattle.layers.proofs.DrainSteps.{moved}
 use Rattle.layers.proofs.draining.move_up.Goals as goal
 
 pub overflow_add-sums : goal.overflow_add-sums

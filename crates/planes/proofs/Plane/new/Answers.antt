@@ -2,8 +2,8 @@ use Rattle.std.proofs.Common.{List, ℤ, refl, ap, arith, rules}
 use Rattle.units.specs.Meaning.{Meaning}
 use Rattle.planes.specs.Columns.{takes_odd}
 use Rattle.refusals.proofs.Refusing.{made}
-use Rattle.units.specs.Checks.{columns_pass}
-use Rattle.planes.specs.Powers.{signs_weigh, plane_zeros, zero_eights, zero_bounded}
+use Rattle.units.proofs.Checks.{columns_pass}
+use Rattle.planes.proofs.Powers.{signs_weigh, plane_zeros, zero_eights, zero_bounded}
 use Rattle.planes.proofs.Plane.new.Goals as goal
 
 pub invariant_of-result : goal.invariant_of-result

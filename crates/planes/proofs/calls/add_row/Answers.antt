@@ -3,7 +3,7 @@ use Rattle.std.proofs.lemmas.List.{take_all}
 use Rattle.std.proofs.lemmas.Int.{to_z-of_z}
 use Rattle.units.specs.Meaning.{Bounded, plus_each}
 use Rattle.planes.specs.Columns.{code, signs, spread}
-use Rattle.planes.specs.Powers.{spread_none, spread_past, spread_more}
+use Rattle.planes.proofs.Powers.{spread_none, spread_past, spread_more}
 use Rattle.planes.proofs.calls.add_row.Goals as goal
 
 pub code_of-requires : goal.code_of-requires

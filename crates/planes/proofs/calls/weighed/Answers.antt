@@ -2,7 +2,7 @@ use Rattle.std.proofs.Common.{◌≡◌, ◌-◌, length, get_or, drop, pos, sym
 use Rattle.std.proofs.lemmas.Int.{ints}
 use Rattle.std.proofs.lemmas.List.{at_drop_all}
 use Rattle.planes.specs.Columns.{weigh}
-use Rattle.planes.specs.Powers.{drop_bounded, weigh_down}
+use Rattle.planes.proofs.Powers.{drop_bounded, weigh_down}
 use Rattle.planes.proofs.calls.weighed.Goals as goal
 
 pub loop-power-init : goal.loop-power-init

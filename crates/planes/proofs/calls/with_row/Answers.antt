@@ -2,8 +2,8 @@ use Rattle.std.proofs.Common.{◌≡◌, ◌+◌, ◌/◌, ◌^◌, get_or, take
 use Rattle.std.proofs.lemmas.Int.{to_z-of_z}
 use Rattle.units.specs.Meaning.{plus_each}
 use Rattle.planes.specs.Columns.{signed, signs}
-use Rattle.units.specs.Reach.{sum_fits, plus_nil}
-use Rattle.planes.specs.Powers.{signed_more}
+use Rattle.units.proofs.Reach.{sum_fits, plus_nil}
+use Rattle.planes.proofs.Powers.{signed_more}
 use Rattle.planes.proofs.calls.with_row.Goals as goal
 
 pub loop-power-init : goal.loop-power-init

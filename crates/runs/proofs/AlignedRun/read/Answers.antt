@@ -2,7 +2,7 @@ use Rattle.std.proofs.Common.{◌<◌, sym, ap, ◌∙◌, arith, w32, w64, SFit
 use Rattle.std.proofs.lemmas.Int.{to_z-of_z}
 use Rattle.refusals.proofs.Refusing.{accepted, when_ok}
 use Rattle.units.specs.Meaning.{column_check, columns_of}
-use Rattle.units.specs.Checks.{total_read}
+use Rattle.units.proofs.Checks.{total_read}
 use Rattle.runs.specs.Checks.{Setting}
 use Rattle.runs.proofs.Alike.{figures_are}
 use Rattle.runs.proofs.Holding.{sound}

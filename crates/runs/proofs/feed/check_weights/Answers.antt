@@ -4,7 +4,7 @@ use Rattle.std.proofs.lemmas.Int.{to_z-of_z}
 use Rattle.refusals.specs.declared.Refusal.TheVariants.{WeightNotTakenAt}
 use Rattle.refusals.specs.Refusing.{verdict}
 use Rattle.units.specs.Meaning.{untaken}
-use Rattle.units.specs.Checks.{untaken_more, untaken_here}
+use Rattle.units.proofs.Checks.{untaken_more, untaken_here}
 use Rattle.runs.proofs.feed.check_weights.Goals as goal
 
 pub returns-then-not-takes : goal.returns-then-not-takes

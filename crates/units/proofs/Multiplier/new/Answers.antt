@@ -3,7 +3,7 @@ use Rattle.std.proofs.lemmas.List.{take-replicate}
 use Rattle.units.specs.Meaning.{Meaning}
 use Rattle.units.specs.Multiplier.{takes_every}
 use Rattle.refusals.proofs.Refusing.{made}
-use Rattle.units.specs.Checks.{columns_pass}
+use Rattle.units.proofs.Checks.{columns_pass}
 use Rattle.units.proofs.Multiplier.new.Goals as goal
 
 pub returns : goal.returns

@@ -4,7 +4,7 @@ use Rattle.std.proofs.lemmas.List.{at_drop_all}
 use Rattle.refusals.specs.declared.Refusal.TheVariants.{WeightNotTaken}
 use Rattle.refusals.proofs.Refusing.{refused, accepted}
 use Rattle.units.specs.Meaning.{untaken}
-use Rattle.units.specs.Checks.{weights_decide, untaken_more, untaken_here}
+use Rattle.units.proofs.Checks.{weights_decide, untaken_more, untaken_here}
 use Rattle.units.proofs.Unit.check.Goals as goal
 
 pub loop-column-preserved : goal.loop-column-preserved

@@ -1,6 +1,6 @@
 use Rattle.std.proofs.Common.{◌≡◌, ◌≤◌, ◌+ℤ◌, ◌*ℤ◌, nat_abs, ◌∙◌, arith, w16, w64, SFits, rules}
 use Rattle.std.proofs.lemmas.Int.{to_z-of_z}
-use Rattle.units.specs.Reach.{row_reach, product_fits, sum_fits}
+use Rattle.units.proofs.Reach.{row_reach, product_fits, sum_fits}
 use Rattle.units.proofs.multiply.raised.Goals as goal
 
 module _ (c : goal.After-from) where

@@ -3,9 +3,9 @@ use Rattle.std.proofs.lemmas.Int.{to_z-of_z}
 use Rattle.refusals.specs.Refusing.{verdict}
 use Rattle.refusals.proofs.Refusing.{changed}
 use Rattle.units.specs.Meaning.{add_check, after_add}
-use Rattle.units.specs.Checks.{Accepted, accepted_at_ok, accepts, answers_ok, leaves_added}
+use Rattle.units.proofs.Checks.{Accepted, accepted_at_ok, accepts, answers_ok, leaves_added}
 use Rattle.layers.specs.Drain.{DrainState, drain_on, drain, room_made, handed_down}
-use Rattle.layers.specs.DrainSteps.{Sound, drain_room, accepted_below, room_there, still_accepted, drain_grows}
+use Rattle.layers.proofs.DrainSteps.{Sound, drain_room, accepted_below, room_there, still_accepted, drain_grows}
 use Rattle.layers.proofs.draining.DrainUnit.add.Goals as goal
 
 pub make_room-requires : goal.make_room-requires

@@ -1,6 +1,6 @@
 use Rattle.std.proofs.Common.{replicate, pos, ap, ◌∙◌}
 use Rattle.layers.specs.Drain.{drain_on, drain}
-use Rattle.layers.specs.DrainSteps.{drain_cleared}
+use Rattle.layers.proofs.DrainSteps.{drain_cleared}
 use Rattle.layers.proofs.draining.DrainUnit.clear.Goals as goal
 
 pub returns : goal.returns

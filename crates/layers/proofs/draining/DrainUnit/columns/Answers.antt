@@ -1,6 +1,6 @@
 use Rattle.std.proofs.Common.{sym, ◌∙◌}
 use Rattle.layers.specs.Drain.{drain_on}
-use Rattle.layers.specs.DrainSteps.{drain_columns}
+use Rattle.layers.proofs.DrainSteps.{drain_columns}
 use Rattle.layers.proofs.draining.DrainUnit.columns.Goals as goal
 
 pub returns : goal.returns

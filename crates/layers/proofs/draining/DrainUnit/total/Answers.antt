@@ -4,9 +4,9 @@ use Rattle.std.proofs.lemmas.Int.{to_z-of_z}
 use Rattle.units.specs.Meaning.{reach}
 use Rattle.layers.specs.Layer.{held}
 use Rattle.layers.specs.Drain.{drain_on, drain}
-use Rattle.units.specs.Checks.{total_read, total_refused, total_bounded}
-use Rattle.units.specs.Reach.{sum_fits}
-use Rattle.layers.specs.DrainSteps.{drain_columns, drain_total}
+use Rattle.units.proofs.Checks.{total_read, total_refused, total_bounded}
+use Rattle.units.proofs.Reach.{sum_fits}
+use Rattle.layers.proofs.DrainSteps.{drain_columns, drain_total}
 use Rattle.layers.proofs.draining.DrainUnit.total.Goals as goal
 
 pub returns-in_err-below : goal.returns-in_err-below

@@ -3,9 +3,9 @@ use Rattle.std.proofs.lemmas.Int.{ints, to_z-of_z}
 use Rattle.refusals.specs.Refusing.{verdict}
 use Rattle.refusals.proofs.Refusing.{changed}
 use Rattle.units.specs.Meaning.{add_check, after_add}
-use Rattle.units.specs.Checks.{accepted_at_ok, accepts, answers_ok, leaves_added}
+use Rattle.units.proofs.Checks.{accepted_at_ok, accepts, answers_ok, leaves_added}
 use Rattle.layers.specs.Odd.{odd_of, odd_on, odd, odd_handed_down}
-use Rattle.layers.specs.OddSteps.{Sound, accepted_odd, few_weights, light_weights, sum_bounded, sum_read, odd_room, odd_grows}
+use Rattle.layers.proofs.OddSteps.{Sound, accepted_odd, few_weights, light_weights, sum_bounded, sum_read, odd_room, odd_grows}
 use Rattle.layers.proofs.halving.OddUnit.add.Goals as goal
 
 pub add_odd-requires : goal.add_odd-requires

@@ -1,6 +1,6 @@
 use Rattle.std.proofs.Common.{pos, ap, ◌∙◌}
 use Rattle.layers.specs.Odd.{odd_on, odd}
-use Rattle.layers.specs.OddSteps.{odd_cleared}
+use Rattle.layers.proofs.OddSteps.{odd_cleared}
 use Rattle.layers.proofs.halving.OddUnit.clear.Goals as goal
 
 pub returns : goal.returns

@@ -1,6 +1,6 @@
 use Rattle.std.proofs.Common.{sym, ◌∙◌}
 use Rattle.layers.specs.Odd.{odd_on}
-use Rattle.layers.specs.OddSteps.{odd_columns}
+use Rattle.layers.proofs.OddSteps.{odd_columns}
 use Rattle.layers.proofs.halving.OddUnit.columns.Goals as goal
 
 pub returns : goal.returns

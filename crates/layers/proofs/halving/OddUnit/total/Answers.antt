@@ -5,8 +5,8 @@ use Rattle.std.proofs.lemmas.Int.{to_z-of_z}
 use Rattle.units.specs.Meaning.{reach}
 use Rattle.layers.specs.Layer.{held}
 use Rattle.layers.specs.Odd.{odd_on, odd, half}
-use Rattle.units.specs.Checks.{total_read, total_refused, total_bounded}
-use Rattle.layers.specs.OddSteps.{difference_fits, half_shifted, shift_fits, odd_columns, odd_total}
+use Rattle.units.proofs.Checks.{total_read, total_refused, total_bounded}
+use Rattle.layers.proofs.OddSteps.{difference_fits, half_shifted, shift_fits, odd_columns, odd_total}
 use Rattle.layers.proofs.halving.OddUnit.total.Goals as goal
 
 pub returns-in_err-below : goal.returns-in_err-below

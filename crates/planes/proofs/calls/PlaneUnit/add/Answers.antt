@@ -6,8 +6,10 @@ use Rattle.units.specs.Meaning.{Meaning, Bounded}
 use Rattle.planes.specs.Columns.{Eights, EachBounded, takes_odd, weigh, spread}
 use Rattle.planes.specs.Plane.{plane}
 use Rattle.planes.specs.declared.Plane.{Plane}
-use Rattle.units.specs.Checks.{Accepted, accepted_at_ok, accepts, weights_bounded, true_from_T, answers_ok, leaves_added}
-use Rattle.planes.specs.Powers.{length_spread, spread_eights, spread_bounded, plane_columns, plane_grows}
+use Rattle.units.proofs.Checks.{Accepted, accepted_at_ok, accepts, weights_bounded, answers_ok, leaves_added}
+use Rattle.planes.proofs.Powers.{length_spread, spread_eights, spread_bounded, plane_grows}
+use Rattle.planes.specs.Lawful.{plane_columns}
+use Rattle.units.specs.Lawful.{true_from_T}
 use Rattle.planes.proofs.calls.PlaneUnit.add.Goals as goal
 
 light : (u : Plane) (a : ℤ) (ws : List ℤ) → Accepted (plane u) a ws → Bounded 255 ws

@@ -1,7 +1,8 @@
 use Rattle.std.proofs.Common.{List, replicate, ℤ, pos, sym, refl, ap, ◌∙◌, arith}
 use Rattle.units.specs.Meaning.{Meaning}
 use Rattle.planes.specs.Columns.{takes_odd}
-use Rattle.planes.specs.Powers.{plane_columns, plane_zeros, zero_eights, zero_bounded}
+use Rattle.planes.specs.Lawful.{plane_columns}
+use Rattle.planes.proofs.Powers.{plane_zeros, zero_eights, zero_bounded}
 use Rattle.planes.proofs.calls.PlaneUnit.clear.Goals as goal
 
 pub invariant_of-self : goal.invariant_of-self

@@ -1,5 +1,5 @@
 use Rattle.std.proofs.Common.{sym, arith}
-use Rattle.planes.specs.Powers.{plane_columns}
+use Rattle.planes.specs.Lawful.{plane_columns}
 use Rattle.planes.proofs.calls.PlaneUnit.columns.Goals as goal
 
 pub returns : goal.returns

@@ -1,8 +1,9 @@
 use Rattle.std.proofs.Common.{Ok, sym, ap, ◌∙◌, arith, w64, SFits, rules}
 use Rattle.std.proofs.lemmas.Int.{to_z-of_z}
 use Rattle.planes.specs.Plane.{plane}
-use Rattle.units.specs.Checks.{total_there, total_past}
-use Rattle.planes.specs.Powers.{plane_columns, plane_at}
+use Rattle.units.proofs.Checks.{total_there, total_past}
+use Rattle.planes.specs.Lawful.{plane_columns}
+use Rattle.planes.proofs.Powers.{plane_at}
 use Rattle.planes.proofs.calls.PlaneUnit.total.Goals as goal
 
 pub returns-then-column-self : goal.returns-then-column-self

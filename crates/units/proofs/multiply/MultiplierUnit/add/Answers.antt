@@ -5,8 +5,9 @@ use Rattle.std.proofs.lemmas.Bool.{leb-true}
 use Rattle.units.specs.Meaning.{Meaning, Bounded, reach, grown}
 use Rattle.units.specs.Multiplier.{multiplier, takes_every}
 use Rattle.units.specs.declared.Multiplier.{Multiplier}
-use Rattle.units.specs.Checks.{Accepted, accepted_at_ok, weights_bounded, true_from_T, answers_ok, leaves_added}
-use Rattle.units.specs.Reach.{length_plus, take_plus, grown_bounded}
+use Rattle.units.proofs.Checks.{Accepted, accepted_at_ok, weights_bounded, answers_ok, leaves_added}
+use Rattle.units.specs.Lawful.{true_from_T}
+use Rattle.units.proofs.Reach.{length_plus, take_plus, grown_bounded}
 use Rattle.units.proofs.multiply.MultiplierUnit.add.Goals as goal
 
 light : (u : Multiplier) (a : ℤ) (ws : List ℤ) → Accepted (multiplier u) a ws → Bounded 255 ws

@@ -7,9 +7,10 @@ use Rattle.std.proofs.lemmas.List.{at_drop_more, length-map, length-take-le, get
 use Rattle.std.proofs.lemmas.Bool.{cond_both, and_parts, leb-true, eqb-true, eqb-false}
 use Rattle.units.specs.Meaning.{Bounded, reach, plus_each, grown}
 use Rattle.planes.specs.Columns.{Eights, EachBounded, SignsWeigh, takes_odd, code, signed, signs, weigh, spread}
-use Rattle.units.specs.Checks.{true_from_T}
+use Rattle.units.specs.Lawful.{true_from_T}
+use Rattle.planes.specs.Lawful.{most, weigh_most, take_eights}
 use Rattle.integers.proofs.Laws.{abs_sum, product_sum}
-use Rattle.units.specs.Reach.{length_plus, plus_bounded, plus_more, get_or_plus_past, zeros_bounded}
+use Rattle.units.proofs.Reach.{length_plus, plus_bounded, plus_more, get_or_plus_past, zeros_bounded}
 
 -- ---- what the sums weigh
 pub weigh_plus : (xs ys : List ℤ) → length xs ≡ length ys → weigh (plus_each xs ys) ≡ weigh xs +ℤ weigh ys
@@ -66,22 +67,6 @@ pub signs_weigh : SignsWeigh
 unfolding SignsWeigh
 signs_weigh a w odd = weigh_signs a w (true_from_T (takes_odd w) odd)
 
--- ---- how far they reach
--- what so many sums of at most n weigh at most
-abbrev most : ℕ → ℕ → ℕ
-most zero n = 0
-most (suc k) n = n + 2 * most k n
-
-weigh_most : (n : ℕ) (ss : List ℤ) → Bounded n ss → unsigned_abs (weigh ss) ≤ most (length ss) n
-weigh_most n [] b = omega arith
-weigh_most n (s ∷ ss) b =
-    let rest = weigh_most n ss (λ c. b (suc c)) in
-    let twice = abs_sum (weigh ss) (weigh ss) in
-    omega (arith, b 0, rest, twice, abs_sum s (weigh ss +ℤ weigh ss))
-
-pub weigh_bounded : (n : ℕ) (ss : List ℤ) → length ss ≡ 8 → Bounded n ss → unsigned_abs (weigh ss) ≤ 255 * n
-weigh_bounded n ss eight b = let top = subst (λ k. unsigned_abs (weigh ss) ≤ most k n) eight (weigh_most n ss b) in omega (arith, top)
-
 unsigned_abs_signed : (b : Bool) (a : ℤ) → unsigned_abs (cond b a (neg_ℤ a)) ≡ unsigned_abs a
 unsigned_abs_signed true a = refl
 unsigned_abs_signed false a = omega (arith, ints)
@@ -128,33 +113,9 @@ spread_weighs (c ∷ cs) a (w ∷ ws) e odd =
     ap (λ t. t ∷ map weigh (spread cs a ws)) column
     ∙ ap (λ ts. (weigh c +ℤ a *ℤ w) ∷ ts) (spread_weighs cs a ws (λ j k. e (suc j) (omega arith)) (λ j k. odd (suc j) (omega arith)))
 
-take_eights : (n : ℕ) (cs : List (List ℤ)) → Eights cs → Eights (take n cs)
-take_eights zero cs e c h = absurd (omega arith)
-take_eights (suc n) [] e c h = e c h
-take_eights (suc n) (d ∷ cs) e zero h = e 0 (omega arith)
-take_eights (suc n) (d ∷ cs) e (suc c) h = take_eights n cs (λ j k. e (suc j) (omega arith)) c (le_of_suc-le-suc h)
-
 -- what the totals become
 pub plane_grows : (n : ℕ) (cs : List (List ℤ)) (a : ℤ) (ws : List ℤ) → Eights cs → ((c : ℕ) → c < length ws → takes_odd (slice_index_or ws c (pos 0)) ≡ true) → map weigh (take n (spread cs a ws)) ≡ grown (map weigh (take n cs)) a ws
 plane_grows n cs a ws e odd = ap (map weigh) (take_spread n cs a ws) ∙ spread_weighs (take n cs) a ws (take_eights n cs e) odd
-
-pub weighs_bounded : (m : ℕ) (cs : List (List ℤ)) → Eights cs → EachBounded m cs → Bounded (255 * m) (map weigh cs)
-weighs_bounded m [] e b c = omega arith
-weighs_bounded m (d ∷ cs) e b zero = weigh_bounded m d (e 0 (omega arith)) (b 0)
-weighs_bounded m (d ∷ cs) e b (suc c) = weighs_bounded m cs (λ j k. e (suc j) (omega arith)) (λ j. b (suc j)) c
-
-take_each : (m n : ℕ) (cs : List (List ℤ)) → EachBounded m cs → EachBounded m (take n cs)
-take_each m zero cs b c j = omega arith
-take_each m (suc n) [] b c j = b c j
-take_each m (suc n) (d ∷ cs) b zero j = b 0 j
-take_each m (suc n) (d ∷ cs) b (suc c) j = take_each m n cs (λ k. b (suc k)) c j
-
-pub plane_bounded : (n rows : ℕ) (cs : List (List ℤ)) → Eights cs → EachBounded (rows * 2 ^ 36) cs → Bounded (reach rows) (map weigh (take n cs))
-plane_bounded n rows cs e b c = omega (arith, weighs_bounded (rows * 2 ^ 36) (take n cs) (take_eights n cs e) (take_each (rows * 2 ^ 36) n cs b) c)
-
--- the totals of the columns in use
-pub plane_columns : (n : ℕ) (cs : List (List ℤ)) → n ≤ length cs → length (map weigh (take n cs)) ≡ n
-plane_columns n cs h = length-map (take n cs) weigh ∙ length-take-le n cs h
 
 pub plane_at : (n : ℕ) (cs : List (List ℤ)) (c : ℕ) → c < n → n ≤ length cs → slice_index_or (map weigh (take n cs)) c (pos 0) ≡ weigh (slice_index_or cs c [])
 plane_at n cs c h k =

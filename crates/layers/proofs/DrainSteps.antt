@@ -5,12 +5,12 @@ use Rattle.std.proofs.lemmas.List.{length-map}
 use Rattle.std.proofs.lemmas.Bool.{cond_both, eqb-false}
 use Rattle.std.proofs.lemmas.Int.{ints}
 use Rattle.units.specs.Meaning.{Meaning, Lawful, Bounded, columns_of, reach, plus_each, add_check, added, after_add, cleared, total_at}
-use Rattle.units.specs.Checks.{Accepted, when_accepted, added_lawful, cleared_lawful, total_read, total_there, total_bounded, unless_both, unless_map}
-use Rattle.units.specs.Reach.{length_plus, get_or_plus, plus_bounded, plus_more, get_or_plus_past, zeros_bounded}
+use Rattle.units.proofs.Checks.{Accepted, when_accepted, added_lawful, cleared_lawful, total_read, total_there, total_bounded, unless_both, unless_map}
+use Rattle.units.proofs.Reach.{length_plus, get_or_plus, plus_bounded, plus_more, get_or_plus_past, zeros_bounded}
 use Rattle.layers.specs.Layer.{held, shown, unit_after}
 use Rattle.layers.specs.Drain.{DrainState, drain_on, drain_made, drain_states, drain, fresh_drain, moved_up, room_made, handed_down, drain_add, drain_clear, drain_after, DrainUnclamped, DrainSingle}
-use Rattle.layers.specs.Events.{after_keeps, as_single}
-use Rattle.layers.specs.Shown.{get_or_shown, map_held, shown_lawful, shown_same}
+use Rattle.layers.proofs.Events.{after_keeps, as_single}
+use Rattle.layers.proofs.Shown.{get_or_shown, map_held, shown_same}
 
 -- ---- lists of sums
 plus_swap : (xs ys zs : List ℤ) → plus_each (plus_each xs ys) zs ≡ plus_each (plus_each xs zs) ys
@@ -61,11 +61,6 @@ drain_total s c h =
     let totals = s.below.totals in
     total_there (drain s) c (omega (arith, h, drain_columns s))
     ∙ ap Ok (get_or_shown bound (plus_each totals s.sums) c (omega (arith, h, length_plus totals s.sums)) ∙ ap (held bound) (get_or_plus totals s.sums c h))
-
-pub drain_lawful : (s : DrainState) → Lawful s.below → Lawful (drain s)
-drain_lawful s law =
-    let counted = length_plus s.below.totals s.sums in
-    shown_lawful (drain_states s) (omega (arith, counted, law.some_column)) (omega (arith, counted, law.few_columns)) (omega arith) (omega arith) law.taken
 
 -- a drain whose parts keep their bounds
 pub record Sound (s : DrainState) : Type 0 where

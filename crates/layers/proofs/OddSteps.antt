@@ -7,13 +7,13 @@ use Rattle.std.proofs.lemmas.Int.{ints, to_z-of_z}
 use Rattle.std.proofs.lemmas.List.{length-map, get_or-map, get_or_past}
 use Rattle.std.proofs.lemmas.Bool.{cases_lt}
 use Rattle.units.specs.Meaning.{Meaning, Lawful, Bounded, columns_of, reach, grown, add_check, added, after_add, cleared, total_at}
-use Rattle.units.specs.Checks.{Accepted, T_from_true, when_accepted, added_lawful, cleared_lawful, total_there, unless_both, unless_map}
+use Rattle.units.proofs.Checks.{Accepted, T_from_true, when_accepted, added_lawful, cleared_lawful, total_there, unless_both, unless_map}
 use Rattle.integers.proofs.Laws.{abs_sum, product_sum}
-use Rattle.units.specs.Reach.{zeros_bounded}
+use Rattle.units.proofs.Reach.{zeros_bounded}
 use Rattle.layers.specs.Layer.{held, unit_after}
 use Rattle.layers.specs.Odd.{OddState, odd_made, odd_of, half, odd_states, odd, fresh_odd, odd_handed_down, odd_add, odd_clear, odd_after, OddUnclamped, OddSingle}
-use Rattle.layers.specs.Events.{after_keeps, as_single}
-use Rattle.layers.specs.Shown.{get_or_shown, map_held, shown_lawful, shown_same}
+use Rattle.layers.proofs.Events.{after_keeps, as_single}
+use Rattle.layers.proofs.Shown.{get_or_shown, map_held, shown_same}
 
 -- ---- numbers
 -- a × (2w + 1) is twice a × w, and a
@@ -87,12 +87,6 @@ odd_total s c h =
     let totals = s.below.totals in
     total_there (odd s) c (omega (arith, h, odd_columns s))
     ∙ ap Ok (get_or_shown bound (halves s.sum totals) c (omega (arith, h, length-map totals halved)) ∙ ap (held bound) (get_or-map halved totals c (pos 0) (pos 0) h))
-
-pub odd_lawful : (s : OddState) → Lawful s.below → Lawful (odd s)
-odd_lawful s law =
-    let counted = length-map s.below.totals (λ t. half (t -ℤ s.sum)) in
-    shown_lawful (odd_states s) (omega (arith, counted, law.some_column)) (omega (arith, counted, law.few_columns)) law.some_row law.few_rows
-    (λ w t. let light = law.taken (odd_of w) t in omega (arith, ints))
 
 -- an odd layer whose parts keep their bounds
 pub record Sound (s : OddState) : Type 0 where

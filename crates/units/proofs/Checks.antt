@@ -11,13 +11,8 @@ use Rattle.refusals.specs.declared.Refusal.TheVariants.{WeightNotTaken, NoSuchCo
 use Rattle.refusals.specs.Columns.{columns_check}
 use Rattle.refusals.specs.Refusing.{refuse, verdict, unless}
 use Rattle.refusals.proofs.Refusing.{none_some, refused, accepted, changed, when_ok, when_err, passed}
-use Rattle.units.specs.Reach.{length_plus, grown_bounded, zeros_bounded}
+use Rattle.units.proofs.Reach.{length_plus, grown_bounded, zeros_bounded}
 use Rattle.units.specs.Meaning.{Meaning, Lawful, Bounded, columns_of, untaken, add_check, added, after_add, cleared, column_check, total_at, reach}
-
--- a test that is true, as a fact and as an equation
-pub true_from_T : (b : Bool) → T b → b ≡ true
-true_from_T true t = refl
-true_from_T false t = absurd t
 
 pub T_from_true : (b : Bool) → b ≡ true → T b
 T_from_true true e = tt

@@ -8,18 +8,9 @@ use Rattle.units.specs.Meaning.{Meaning, Lawful, Bounded, columns_of, reach}
 use Rattle.layers.specs.Layer.{held, shown}
 use Rattle.integers.proofs.Laws.{abs_neg}
 
-unsigned_abs_held : (n : ℕ) (z : ℤ) → unsigned_abs (held n z) ≤ n
-unsigned_abs_held n (pos k) = omega arith
-unsigned_abs_held n (negsuc k) = omega (arith, abs_neg (min n (suc k)))
-
 pub held_same : (n : ℕ) (z : ℤ) → unsigned_abs z ≤ n → held n z ≡ z
 held_same n (pos k) h = ap pos (omega arith)
 held_same n (negsuc k) h = ap (λ m. neg_ℤ (pos m)) (let e : min n (suc k) ≡ suc k = omega arith in e)
-
-get_or_held : (n : ℕ) (ts : List ℤ) (c : ℕ) → unsigned_abs (slice_index_or (map (held n) ts) c (pos 0)) ≤ n
-get_or_held n [] c = omega arith
-get_or_held n (t ∷ ts) zero = unsigned_abs_held n t
-get_or_held n (t ∷ ts) (suc c) = get_or_held n ts c
 
 pub map_held : (n : ℕ) (ts : List ℤ) → Bounded n ts → map (held n) ts ≡ ts
 map_held n [] b = refl
@@ -32,19 +23,6 @@ get_or_shown n ts c h = get_or-map (held n) ts c (pos 0) (pos 0) h
 pub held_clamped : (n : ℕ) (z : ℤ) → int_max (neg_ℤ (pos n)) (int_min z (pos n)) ≡ held n z
 held_clamped n (pos k) = omega (arith, ints, clamps)
 held_clamped n (negsuc k) = omega (arith, ints, clamps)
-
-pub shown_lawful : (m : Meaning) → 1 ≤ columns_of m → columns_of m ≤ 16 → 1 ≤ m.limit → m.limit ≤ 65536 → ((w : ℤ) → T (m.takes w) → unsigned_abs w ≤ 255) → Lawful (shown m)
-shown_lawful m some few some_row few_rows taken =
-    let counted = length-map m.totals (held (reach (min m.limit m.rows))) in
-    record {
-      some_column = omega (arith, counted);
-      few_columns = omega (arith, counted);
-      some_row = some_row;
-      few_rows = few_rows;
-      within = omega arith;
-      taken = taken;
-      bounded = get_or_held (reach (min m.limit m.rows)) m.totals;
-    }
 
 pub shown_same : (m : Meaning) → m.rows ≤ m.limit → Bounded (reach m.rows) m.totals → shown m ≡ m
 shown_same m within bounded =

@@ -93,12 +93,6 @@ grown_bounded rows ts a ws low small light c =
     let step = plus_bounded (reach rows) (255 * 2 ^ 36) ts (map (λ w. a *ℤ w) ws) low (λ d. rw (get_or_scaled a ws d) (row_reach a (slice_index_or ws d (pos 0)) small (light d))) c in
     omega (arith, step)
 
-pub take_bounded : (n k : ℕ) (xs : List ℤ) → Bounded n xs → Bounded n (take k xs)
-take_bounded n zero xs b c = omega arith
-take_bounded n (suc k) [] b c = b c
-take_bounded n (suc k) (x ∷ xs) b zero = b zero
-take_bounded n (suc k) (x ∷ xs) b (suc c) = take_bounded n k xs (λ d. b (suc d)) c
-
 pub zeros_bounded : (k n : ℕ) → Bounded k (replicate n (pos 0))
 zeros_bounded k zero c = omega arith
 zeros_bounded k (suc n) zero = omega arith

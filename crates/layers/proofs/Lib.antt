@@ -1,0 +1,4 @@
+pub mod Shown
+pub mod Events
+pub mod DrainSteps
+pub mod OddSteps

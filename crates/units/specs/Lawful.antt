@@ -1,0 +1,33 @@
+-- The multiplier unit keeps the laws of a unit. Nothing here has to be believed: these are proofs, which the unit names.
+use Rattle.std.specs.Prelude.{◌≡◌, ℕ, zero, suc, Bool, true, false, T, List, [], ◌∷◌, length, take, ℤ, refl}
+use Rattle.std.proofs.Common.{arith}
+use Rattle.std.proofs.lemmas.List.{length-take}
+use Rattle.std.proofs.lemmas.Bool.{leb-true}
+use Rattle.units.specs.declared.Multiplier.{Multiplier}
+use Rattle.units.specs.Meaning.{Lawful, Bounded}
+use Rattle.units.specs.Multiplier.{multiplier}
+
+-- a test that is true, as a fact and as an equation
+pub true_from_T : (b : Bool) → T b → b ≡ true
+true_from_T true t = refl
+true_from_T false t = absurd t
+
+-- a front of a list reaches no further than the whole
+pub take_bounded : (n k : ℕ) (xs : List ℤ) → Bounded n xs → Bounded n (take k xs)
+take_bounded n zero xs b c = omega arith
+take_bounded n (suc k) [] b c = b c
+take_bounded n (suc k) (x ∷ xs) b zero = b zero
+take_bounded n (suc k) (x ∷ xs) b (suc c) = take_bounded n k xs (λ d. b (suc d)) c
+
+pub multiplier_lawful : (u : Multiplier) → Lawful (multiplier u)
+multiplier_lawful u =
+    let counted : length (take u.columns u.sums) ≡ u.columns = simp length-take (omega (arith, u.wide, u.few)) in
+    record {
+      some_column = omega (arith, counted, u.some);
+      few_columns = omega (arith, counted, u.few);
+      some_row = omega arith;
+      few_rows = omega arith;
+      within = u.short;
+      taken = λ w t. leb-true _ _ (true_from_T _ t);
+      bounded = take_bounded _ _ u.sums u.bounded;
+    }
