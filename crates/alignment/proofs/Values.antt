@@ -1,5 +1,5 @@
 -- A value cut to steps, from its significand and the distance to the shared exponent.
-use Rattle.std.proofs.Common.{◌≡◌, ℕ, zero, suc, ◌+◌, ◌-◌, ◌*◌, ◌/◌, ◌%◌, ◌^◌, ◌<◌, ◌≤◌, min, Bool, not, eqb, ℤ, pos, negsuc, ◌+ℤ◌, ◌-ℤ◌, ◌*ℤ◌, neg_ℤ, nat_abs, ◌≤ℤ◌, sym, refl, ap, ◌∙◌, subst, ⊎_elim, mod-eq_of_lt, mul_assoc, suc-mul, mul_comm, add-mul, mul-le-mul_left, one-mul, div-add-mod', mul_right_comm, arith, pow_pos, pow_mono, pow-add, w64, SFits}
+use Rattle.std.proofs.Common.{◌≡◌, ℕ, zero, suc, ◌+◌, ◌*◌, ◌/◌, ◌%◌, ◌^◌, ◌<◌, ◌≤◌, min, Bool, not, eqb, ℤ, pos, negsuc, ◌+ℤ◌, ◌-ℤ◌, ◌*ℤ◌, neg_ℤ, nat_abs, ◌≤ℤ◌, sym, refl, ap, ◌∙◌, subst, ⊎_elim, mod-eq_of_lt, mul_assoc, suc-mul, mul_comm, add-mul, mul-le-mul_left, one-mul, div-add-mod', mul_right_comm, arith, pow_pos, pow_mono, pow-add, w64, SFits}
 use native.Mathlib.Nat.{mul-div-mul_right, div-eq_of_lt, zero-div}
 use lib.Signed.{quot_z}
 use Rattle.std.proofs.lemmas.Int.{ints}

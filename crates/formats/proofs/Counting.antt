@@ -7,7 +7,7 @@ use Rattle.std.proofs.lemmas.Nat.{mod_below, div_below, le-div, shr-shr}
 use Rattle.std.proofs.lemmas.Int.{ints}
 use Rattle.std.proofs.lemmas.Bool.{cases_lt, eq-eqb, ne_eqb}
 use Rattle.formats.specs.Counting.{OneUp, Opposite, WordsCountUp}
-use Rattle.formats.specs.Interchange.{fraction, field, sign, exponent, number, interchange}
+use Rattle.formats.specs.Interchange.{fraction, field, exponent, number, interchange}
 
 -- a word by its parts: a sign bit, a field and a fraction
 by_parts : ℕ → ℕ → ℕ → ℕ → ℕ → ℕ

@@ -1,12 +1,11 @@
 -- What a layer shows: it keeps the laws, and within them it is what the layer states.
-use Rattle.std.specs.Prelude.{◌≡◌, ℕ, zero, suc, ◌<◌, ◌≤◌, min, T, List, [], ◌∷◌, map, length, ℤ, pos, negsuc, neg_ℤ, slice_index_or, unsigned_abs, refl}
+use Rattle.std.specs.Prelude.{◌≡◌, ℕ, suc, ◌<◌, ◌≤◌, min, List, [], ◌∷◌, map, length, ℤ, pos, negsuc, neg_ℤ, slice_index_or, unsigned_abs, refl}
 use Rattle.std.proofs.Common.{ap, ◌∙◌, arith}
-use Rattle.std.proofs.lemmas.List.{length-map, get_or-map}
+use Rattle.std.proofs.lemmas.List.{get_or-map}
 use Rattle.std.proofs.lemmas.Int.{ints, clamps}
 use Rattle.std.specs.Int.{int_max, int_min}
-use Rattle.units.specs.Meaning.{Meaning, Lawful, Bounded, columns_of, reach}
+use Rattle.units.specs.Meaning.{Meaning, Bounded, reach}
 use Rattle.layers.specs.Layer.{held, shown}
-use Rattle.integers.proofs.Laws.{abs_neg}
 
 pub held_same : (n : ℕ) (z : ℤ) → unsigned_abs z ≤ n → held n z ≡ z
 held_same n (pos k) h = ap pos (omega arith)

@@ -3,13 +3,13 @@ use Rattle.std.specs.Prelude.{◌≡◌, ℕ, zero, suc, ◌+◌, ◌-◌, ◌*�
 use Rattle.std.proofs.Common.{sym, ap, subst, ◌∙◌, arith, le_of_suc-le-suc, pow-suc, div-one, add-one}
 use Rattle.std.proofs.lemmas.Int.{ints}
 use Rattle.std.proofs.lemmas.Nat.{shr-shr}
-use Rattle.std.proofs.lemmas.List.{at_drop_more, length-map, length-take-le, get_or-map, get_or-take, take-replicate}
+use Rattle.std.proofs.lemmas.List.{at_drop_more, length-take-le, get_or-map, get_or-take, take-replicate}
 use Rattle.std.proofs.lemmas.Bool.{cond_both, and_parts, leb-true, eqb-true, eqb-false}
-use Rattle.units.specs.Meaning.{Bounded, reach, plus_each, grown}
+use Rattle.units.specs.Meaning.{Bounded, plus_each, grown}
 use Rattle.planes.specs.Columns.{Eights, EachBounded, SignsWeigh, takes_odd, code, signed, signs, weigh, spread}
 use Rattle.units.specs.Lawful.{true_from_T}
 use Rattle.planes.specs.Lawful.{most, weigh_most, take_eights}
-use Rattle.integers.proofs.Laws.{abs_sum, product_sum}
+use Rattle.integers.proofs.Laws.{product_sum}
 use Rattle.units.proofs.Reach.{length_plus, plus_bounded, plus_more, get_or_plus_past, zeros_bounded}
 
 -- ---- what the sums weigh

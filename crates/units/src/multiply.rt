@@ -1,5 +1,5 @@
 // What the multiplier unit does.
-ghost use Rattle.std.specs.Prelude.{◌≡◌, ◌^◌, ◌<◌, ◌≤◌, length, take, ◌+ℤ◌, ◌*ℤ◌, unsigned_abs};
+ghost use Rattle.std.specs.Prelude.{◌≡◌, ◌^◌, ◌<◌, ◌≤◌, length, ◌+ℤ◌, ◌*ℤ◌, unsigned_abs};
 ghost use Rattle.refusals.specs.Columns.{columns_check};
 ghost use Rattle.refusals.specs.Refusing.{Made};
 ghost use Rattle.units.specs.Meaning.{Bounded, reach, grown};

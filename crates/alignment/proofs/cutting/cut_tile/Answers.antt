@@ -6,7 +6,6 @@ use Rattle.sums.specs.Terms.{step_of}
 use Rattle.alignment.specs.Cutting.{word_check, words_check, aligned, Small}
 use Rattle.alignment.proofs.Rows.{row_passed, row_faulty, filled_more, filled_all, read_tile, small_more}
 use Rattle.alignment.proofs.Surveying.{tile_all, too_many, few_enough}
-use Rattle.alignment.proofs.cutting.cut_tile.Given as given
 use Rattle.alignment.proofs.cutting.cut_tile.Goals as goal
 
 pub returns-then-words-gt-TILE_WORDS : goal.returns-then-words-gt-TILE_WORDS

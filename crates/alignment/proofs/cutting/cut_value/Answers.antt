@@ -1,4 +1,4 @@
-use Rattle.std.proofs.Common.{◌≡◌, ◌*◌, ◌/◌, ◌%◌, ◌^◌, ◌<◌, min, not, eqb, ℤ, pos, ◌-ℤ◌, ◌*ℤ◌, nat_abs, ap, ◌∙◌, mod-eq_of_lt, div-le_self, arith, w64, to_z, of_z}
+use Rattle.std.proofs.Common.{◌≡◌, ◌*◌, ◌/◌, ◌%◌, ◌^◌, ◌<◌, min, not, eqb, pos, ◌-ℤ◌, ◌*ℤ◌, nat_abs, ap, ◌∙◌, mod-eq_of_lt, div-le_self, arith, w64, to_z, of_z}
 use Rattle.std.proofs.lemmas.Nat.{one_shl}
 use Rattle.std.proofs.lemmas.Int.{ints, to_z-of_z, to_z_pos}
 use Rattle.integers.proofs.Laws.{abs_product}

@@ -3,7 +3,6 @@ use Rattle.std.proofs.lemmas.List.{length-map}
 use Rattle.std.proofs.lemmas.Result.{err_from_is_err_and}
 use Rattle.refusals.proofs.Refusing.{none_some, when_ok, when_err, refused, accepted, kept, changed}
 use Rattle.alignment.specs.Cutting.{nothing, cut_check}
-use Rattle.alignment.specs.Cutting as cutting
 use Rattle.runs.specs.Checks.{Setting}
 use Rattle.runs.specs.State.{setting_of, step_size, add_row, rows_of, fed_check}
 use Rattle.runs.specs.Runs.{aligned}

@@ -2,7 +2,7 @@ use Rattle.std.proofs.Common.{◌≡◌, ◌+◌, get_or, take, set, pos, ◌+�
 use Rattle.std.proofs.lemmas.Int.{to_z-of_z}
 use Rattle.std.proofs.lemmas.List.{take_all}
 use Rattle.units.specs.Meaning.{grown}
-use Rattle.units.proofs.Reach.{sum_fits, grown_none, grown_more, get_or_grown_past}
+use Rattle.units.proofs.Reach.{grown_none, grown_more, get_or_grown_past}
 use Rattle.units.proofs.multiply.grow.Goals as goal
 
 pub raised-requires : goal.raised-requires
