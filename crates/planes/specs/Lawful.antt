@@ -1,7 +1,6 @@
 -- The plane unit keeps the laws of a unit. Nothing here has to be believed: these are proofs, which the unit names.
 use Rattle.std.specs.Prelude.{◌≡◌, ℕ, zero, suc, ◌+◌, ◌*◌, ◌^◌, ◌≤◌, List, [], ◌∷◌, map, length, take, ℤ, ◌+ℤ◌, unsigned_abs}
 use Rattle.std.proofs.Common.{subst, ◌∙◌, arith, le_of_suc-le-suc}
-use Rattle.std.proofs.lemmas.Int.{ints}
 use Rattle.std.proofs.lemmas.List.{length-map, length-take-le}
 use Rattle.std.proofs.lemmas.Bool.{and_parts, leb-true}
 use Rattle.units.specs.Meaning.{Lawful, Bounded, reach}
