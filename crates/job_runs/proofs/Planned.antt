@@ -5,7 +5,7 @@ use Rattle.std.proofs.lemmas.List.{length-map}
 use Rattle.std.proofs.lemmas.Bool.{ltb-false}
 use Rattle.refusals.specs.declared.Refusal.{Refusal}
 use Rattle.refusals.specs.declared.Refusal.TheVariants.{UnknownCode}
-use Rattle.refusals.specs.Columns.{columns_check}
+use Rattle.columns.specs.Columns.{columns_check}
 use Rattle.refusals.specs.Refusing.{first, Made}
 use Rattle.refusals.proofs.Refusing.{passed, both_passed, first_refuses, first_passes, was_made, was_refused, made, unmade}
 use Rattle.alignment.specs.Tile.{extra_check}

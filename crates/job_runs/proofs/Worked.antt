@@ -5,7 +5,7 @@ use Rattle.std.proofs.lemmas.Bool.Decides.{nat_tests}
 use Rattle.std.specs.List.{AllByRecursion}
 use Rattle.std.specs.declared.alloc.Global.{Global}
 use Rattle.refusals.specs.declared.Refusal.{Refusal}
-use Rattle.refusals.specs.Columns.{columns_check}
+use Rattle.columns.specs.Columns.{columns_check}
 use Rattle.refusals.specs.Refusing.{Made}
 use Rattle.refusals.proofs.Refusing.{made, unmade}
 use Rattle.formats.specs.Coding.{Coding}

@@ -1,6 +1,6 @@
 -- The parts of a job: how its run is opened, its words, and its tiles of 128 rows with their sheets.
 use Rattle.std.specs.Prelude.{◌≡◌, ℕ, ◌+◌, ◌-◌, ◌*◌, ◌/◌, min, Bool, List, take, drop, ℤ, pos, None}
-use Rattle.refusals.specs.Columns.{columns_check}
+use Rattle.columns.specs.Columns.{columns_check}
 use Rattle.formats.specs.Coding.{Coding}
 use Rattle.formats.specs.Fixed.{fixed}
 use Rattle.formats.specs.Interchange.{coding}

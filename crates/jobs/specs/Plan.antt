@@ -2,7 +2,7 @@
 use Rattle.std.specs.Prelude.{ℕ, ◌+◌, ◌*◌, ◌/◌, ◌%◌, Bool, not, ◌||◌, is_some, Some, None, Option, ◌==◌, nat_lt}
 use Rattle.refusals.specs.declared.Refusal.{Refusal}
 use Rattle.refusals.specs.declared.Refusal.TheVariants.{UnknownCode}
-use Rattle.refusals.specs.Columns.{columns_check}
+use Rattle.columns.specs.Columns.{columns_check}
 use Rattle.refusals.specs.Refusing.{refuse, first}
 use Rattle.alignment.specs.Tile.{extra_check}
 use Rattle.sheets.specs.Code.{coded, sheet_codes, sheet_number, byte_length}

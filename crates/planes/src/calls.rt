@@ -1,6 +1,6 @@
 // What a plane unit does.
 ghost use Rattle.std.specs.Prelude.{◌≡◌, ◌*◌, ◌/◌, ◌^◌, ◌<◌, ◌≤◌, length, replicate, pos, unsigned_abs};
-ghost use Rattle.refusals.specs.Columns.{columns_check};
+ghost use Rattle.columns.specs.Columns.{columns_check};
 ghost use Rattle.refusals.specs.Refusing.{Made, verdict, unless};
 ghost use Rattle.units.specs.Meaning.{Bounded, plus_each, add_check, after_add, cleared};
 ghost use Rattle.planes.specs.Columns.{EachBounded, SignsWeigh, code, signed, signs, weigh, spread};

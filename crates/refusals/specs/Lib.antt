@@ -1,3 +1,2 @@
 pub mod Number
 pub mod Refusing
-pub mod Columns

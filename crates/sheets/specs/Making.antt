@@ -2,7 +2,7 @@
 use Rattle.std.specs.Prelude.{ℕ, ◌*◌, not, ◌||◌, None, Option, ◌==◌, nat_lt}
 use Rattle.refusals.specs.declared.Refusal.{Refusal}
 use Rattle.refusals.specs.declared.Refusal.TheVariants.{TooManyRows, PlaneCount, ByteLength}
-use Rattle.refusals.specs.Columns.{columns_check}
+use Rattle.columns.specs.Columns.{columns_check}
 use Rattle.refusals.specs.Refusing.{refuse, first}
 use Rattle.sheets.specs.declared.code.SheetCode.{SheetCode}
 use Rattle.sheets.specs.declared.code.SheetCode.TheVariants.{Byte, Nibble, Planes}

@@ -8,7 +8,7 @@ use Rattle.std.proofs.lemmas.Bool.{cond-true, cond-false, cases_lt, not-false, e
 use Rattle.std.proofs.lemmas.Bool.Decides.{nat_tests}
 use Rattle.refusals.specs.declared.Refusal.{Refusal}
 use Rattle.refusals.specs.declared.Refusal.TheVariants.{WeightNotTaken, NoSuchColumn}
-use Rattle.refusals.specs.Columns.{columns_check}
+use Rattle.columns.specs.Columns.{columns_check}
 use Rattle.refusals.specs.Refusing.{refuse, verdict, unless}
 use Rattle.refusals.proofs.Refusing.{none_some, refused, accepted, changed, when_ok, when_err, passed}
 use Rattle.units.proofs.Reach.{length_plus, grown_bounded, zeros_bounded}

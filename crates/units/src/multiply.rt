@@ -1,6 +1,6 @@
 // What the multiplier unit does.
 ghost use Rattle.std.specs.Prelude.{◌≡◌, ◌^◌, ◌<◌, ◌≤◌, length, ◌+ℤ◌, ◌*ℤ◌, unsigned_abs};
-ghost use Rattle.refusals.specs.Columns.{columns_check};
+ghost use Rattle.columns.specs.Columns.{columns_check};
 ghost use Rattle.refusals.specs.Refusing.{Made};
 ghost use Rattle.units.specs.Meaning.{Bounded, reach, grown};
 ghost use Rattle.units.specs.Multiplier.{multiplier, fresh_multiplier};

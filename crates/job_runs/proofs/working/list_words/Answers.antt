@@ -1,6 +1,6 @@
 use Rattle.std.proofs.Common.{◌≡◌, pos, sym, ap, ◌∙◌}
 use Rattle.std.proofs.lemmas.List.{length-replicate}
-use Rattle.refusals.specs.Columns.{columns_check}
+use Rattle.columns.specs.Columns.{columns_check}
 use Rattle.refusals.proofs.Refusing.{when_made}
 use Rattle.units.specs.Meaning.{columns_of}
 use Rattle.units.specs.Multiplier.{multiplier, fresh_multiplier}

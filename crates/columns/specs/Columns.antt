@@ -1,4 +1,4 @@
--- A check that units, sheets and jobs share.
+-- How many columns a unit or a sheet may have.
 use Rattle.std.specs.Prelude.{ℕ, ◌||◌, Option, ◌==◌, nat_lt}
 use Rattle.refusals.specs.declared.Refusal.{Refusal}
 use Rattle.refusals.specs.declared.Refusal.TheVariants.{ColumnCount}

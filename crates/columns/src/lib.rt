@@ -1,0 +1,36 @@
+// How many columns a unit or a sheet has. A count is checked once, where it is made.
+#![tactic(auto)]
+
+ghost use Rattle.std.specs.Prelude.{◌≡◌, ◌≤◌};
+ghost use Rattle.refusals.specs.Refusing.{Made};
+ghost use Rattle.columns.specs.Columns.{columns_check};
+
+use refusals::Refusal;
+
+// The most columns there can be.
+pub const MOST_COLUMNS: usize = 16;
+
+// 1 to 16 columns.
+#[derive(Clone, Copy)]
+pub struct Columns {
+    count: usize,
+    ghost some: { 1 ≤ count },
+    ghost few: { count ≤ 16 },
+}
+
+impl Columns {
+    pub fn new(count: usize) -> Result<Columns, Refusal>
+        ensures { Made (columns_check count) (λ c. c.count ≡ count) result }
+    {
+        if count == 0 || count > MOST_COLUMNS {
+            return Err(Refusal::ColumnCount);
+        }
+        Ok(Columns { count })
+    }
+
+    pub fn count(self) -> usize
+        ensures { result ≡ self.count }
+    {
+        self.count
+    }
+}
