@@ -1,5 +1,5 @@
 -- The checks of a unit's calls, one after the other.
-use Rattle.std.specs.Prelude.{◌≡◌, ℕ, zero, suc, ◌+◌, ◌^◌, ◌<◌, ◌≤◌, Bool, true, false, cond, T, List, [], ◌∷◌, map, length, drop, ℤ, pos, ◌*ℤ◌, Some, None, Ok, Err, Option, FitsSigned, nat_le, slice_index_or, unsigned_abs, refl}
+use Rattle.std.specs.Prelude.{◌≡◌, ℕ, zero, suc, ◌+◌, ◌^◌, ◌<◌, ◌≤◌, Bool, true, false, cond, not, T, List, [], ◌∷◌, map, length, ℤ, pos, ◌*ℤ◌, Some, None, Ok, Err, Option, FitsSigned, nat_le, slice_index_or, unsigned_abs, refl}
 use Rattle.std.proofs.Common.{sym, ap, subst, ◌∙◌, ⊎_elim, arith, le_of_suc-le-suc, to_z, of_z}
 use Rattle.std.specs.Int.{w64}
 use Rattle.std.proofs.lemmas.List.{at_drop_more, get_or_past, length-replicate}
@@ -8,11 +8,15 @@ use Rattle.std.proofs.lemmas.Bool.{cond-true, cond-false, cases_lt, not-false, e
 use Rattle.std.proofs.lemmas.Bool.Decides.{nat_tests}
 use Rattle.refusals.specs.declared.Refusal.{Refusal}
 use Rattle.refusals.specs.declared.Refusal.TheVariants.{WeightNotTaken, NoSuchColumn}
+use Rattle.units.specs.declared.row.Number.{Number}
+use Rattle.units.specs.declared.row.Row.{Row}
 use Rattle.columns.specs.Columns.{columns_check}
-use Rattle.refusals.specs.Refusing.{refuse, verdict, unless}
-use Rattle.refusals.proofs.Refusing.{none_some, refused, accepted, changed, when_ok, when_err, passed}
+use Rattle.refusals.specs.Refusing.{refuse, verdict, unless, Made}
+use Rattle.std.specs.List.{position_from}
+use Rattle.std.specs.Option.{option_map}
+use Rattle.refusals.proofs.Refusing.{none_some, refused, accepted, changed, was_made, when_ok, when_err, passed}
 use Rattle.units.proofs.Reach.{length_plus, grown_bounded, zeros_bounded}
-use Rattle.units.specs.Meaning.{Meaning, Lawful, Bounded, columns_of, untaken, add_check, added, after_add, cleared, column_check, total_at, reach}
+use Rattle.units.specs.Meaning.{Meaning, Lawful, Bounded, columns_of, untaken, first_untaken, number_check, add_check, added, after_add, cleared, column_check, total_at, reach}
 
 pub T_from_true : (b : Bool) → b ≡ true → T b
 T_from_true true e = tt
@@ -23,12 +27,19 @@ T_from_true false e = absurd (let z : ◌≡◌ {A = ℕ} 0 1 = cc in omega arit
 pub weights_decide : (m : Meaning) (a : ℤ) (ws : List ℤ) → length ws ≡ columns_of m → m.rows < m.limit → unsigned_abs a < 2 ^ 36 → add_check m a ws ≡ untaken m.takes WeightNotTaken 0 ws
 weights_decide m a ws one_each room small = grind (arith, nat_tests)
 
-module _ (takes : ℤ → Bool) (refusal : ℕ → Refusal) (ws : List ℤ) (i : ℕ) (here : i < length ws) where
-  pub untaken_more : takes (slice_index_or ws i (pos 0)) ≡ true → untaken takes refusal i (drop i ws) ≡ untaken takes refusal (i + 1) (drop (i + 1) ws)
-  untaken_more taken = at_drop_more (untaken takes refusal i) ws i (pos 0) here ∙ cond-true _ _ _ taken
+untaken_by : (b : Bool) (refusal : ℕ → Refusal) (column : ℕ) (o : Option Refusal) (p : Option ℕ) → o ≡ option_map refusal p → cond b o (Some (refusal column)) ≡ option_map refusal (cond (not b) (Some column) p)
+untaken_by true refusal column o p e = e
+untaken_by false refusal column o p e = refl
 
-  pub untaken_here : takes (slice_index_or ws i (pos 0)) ≡ false → untaken takes refusal i (drop i ws) ≡ Some (refusal i)
-  untaken_here left = at_drop_more (untaken takes refusal i) ws i (pos 0) here ∙ cond-false _ _ _ left
+-- the refusal is that of the first column whose weight is not taken
+pub untaken_first : (takes : ℤ → Bool) (refusal : ℕ → Refusal) (column : ℕ) (ws : List ℤ) → untaken takes refusal column ws ≡ option_map refusal (position_from (λ w. not (takes w)) column ws)
+untaken_first takes refusal column [] = refl
+untaken_first takes refusal column (w ∷ ws) = untaken_by (takes w) refusal column _ _ (untaken_first takes refusal (column + 1) ws)
+
+-- the same as the first column whose weight is not taken tells it
+pub column_decides : (m : Meaning) (a : ℤ) (ws : List ℤ) (column : Option ℕ) → length ws ≡ columns_of m → m.rows < m.limit → unsigned_abs a < 2 ^ 36 → column ≡ first_untaken m.takes ws → add_check m a ws ≡ option_map WeightNotTaken column
+column_decides m a ws column one_each room small e =
+    weights_decide m a ws one_each room small ∙ untaken_first m.takes WeightNotTaken 0 ws ∙ ap (option_map WeightNotTaken) (sym e)
 
 -- an add that no check refuses
 pub record Accepted (m : Meaning) (a : ℤ) (ws : List ℤ) : Type 0 where
@@ -66,10 +77,24 @@ when_accepted m a ws e =
 pub accepts : (m : Meaning) (a : ℤ) (ws : List ℤ) → Accepted m a ws → add_check m a ws ≡ None
 accepts m a ws ok = weights_decide m a ws ok.one_each ok.room ok.small ∙ none_untaken m.takes WeightNotTaken 0 ws ok.taken
 
--- what `check` tells where it answers `Ok`, its number read back from bits
-pub accepted_at_ok : (m : Meaning) (a : ℤ) (ws : List ℤ) → FitsSigned w64 a → Ok tt ≡ verdict (add_check m (to_z w64 (of_z w64 a)) ws) → Accepted m a ws
-accepted_at_ok m a ws fits e =
-    when_accepted m a ws (when_ok _ tt tt (subst (λ b. Ok tt ≡ verdict (add_check m b ws)) (to_z-of_z w64 a fits) e)).0
+-- what making a number tells, the number read back from bits
+pub number_at_ok : (a : ℤ) (n : Number) → FitsSigned w64 a → Made (number_check (to_z w64 (of_z w64 a))) (λ n. n.value ≡ to_z w64 (of_z w64 a)) (Ok n) → (n.value ≡ a) × (unsigned_abs a < 2 ^ 36)
+number_at_ok a n fits e =
+    let same = (was_made _ (λ n. n.value ≡ to_z w64 (of_z w64 a)) n e).1 ∙ to_z-of_z w64 a fits in
+    (same, subst (λ z. unsigned_abs z < 2 ^ 36) same n.small)
+
+-- the row that `check` gives: no check refuses it, and it is the one that was asked for
+pub record Checked (m : Meaning) (a : ℤ) (ws : List ℤ) (row : Row) : Type 0 where
+  pub accepted : Accepted m a ws
+  pub number : row.number.value ≡ a
+  pub weights : row.weights.now ≡ ws
+
+-- its number read back from bits
+pub checked : (m : Meaning) (a : ℤ) (ws : List ℤ) (row : Row) → FitsSigned w64 a → Made (add_check m (to_z w64 (of_z w64 a)) ws) (λ r. (r.number.value ≡ to_z w64 (of_z w64 a)) × (r.weights.now ≡ ws)) (Ok row) → Checked m a ws row
+checked m a ws row fits e =
+    let given = subst (λ b. Made (add_check m b ws) (λ r. (r.number.value ≡ b) × (r.weights.now ≡ ws)) (Ok row)) (to_z-of_z w64 a fits) e in
+    let parts = was_made (add_check m a ws) (λ r. (r.number.value ≡ a) × (r.weights.now ≡ ws)) row given in
+    record { accepted = when_accepted m a ws parts.0; number = parts.1.0; weights = parts.1.1 }
 
 -- what an accepted add answers, and leaves
 pub answers_ok : (m : Meaning) (a : ℤ) (ws : List ℤ) → Accepted m a ws → Ok tt ≡ verdict (add_check m a ws)

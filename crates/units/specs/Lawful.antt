@@ -3,7 +3,7 @@ use Rattle.std.specs.Prelude.{◌≡◌, ℕ, zero, suc, Bool, true, false, T, L
 use Rattle.std.proofs.Common.{arith}
 use Rattle.std.proofs.lemmas.List.{length-take}
 use Rattle.std.proofs.lemmas.Bool.{leb-true}
-use Rattle.units.specs.declared.Multiplier.{Multiplier}
+use Rattle.units.specs.declared.multiply.Multiplier.{Multiplier}
 use Rattle.units.specs.Meaning.{Lawful, Bounded}
 use Rattle.units.specs.Multiplier.{multiplier}
 
@@ -21,10 +21,10 @@ take_bounded n (suc k) (x ∷ xs) b (suc c) = take_bounded n k xs (λ d. b (suc 
 
 pub multiplier_lawful : (u : Multiplier) → Lawful (multiplier u)
 multiplier_lawful u =
-    let counted : length (take u.columns u.sums) ≡ u.columns = simp length-take (omega (arith, u.wide, u.few)) in
+    let counted : length (take u.columns.count u.sums) ≡ u.columns.count = simp length-take (omega (arith, u.wide, u.columns.few)) in
     record {
-      some_column = omega (arith, counted, u.some);
-      few_columns = omega (arith, counted, u.few);
+      some_column = omega (arith, counted, u.columns.some);
+      few_columns = omega (arith, counted, u.columns.few);
       some_row = omega arith;
       few_rows = omega arith;
       within = u.short;

@@ -1,5 +1,6 @@
 -- What a unit means, what its calls do to that meaning, and when they refuse.
 use Rattle.std.specs.Prelude.{ℕ, ◌+◌, ◌*◌, ◌^◌, ◌≤◌, Bool, cond, not, T, List, [], ◌∷◌, map, length, replicate, ℤ, pos, ◌+ℤ◌, ◌*ℤ◌, Some, None, Option, Result, ◌==◌, nat_le, slice_index_or, unsigned_abs}
+use Rattle.std.specs.List.{position_from}
 use Rattle.refusals.specs.declared.Refusal.{Refusal}
 use Rattle.refusals.specs.declared.Refusal.TheVariants.{WeightCount, RowLimit, NumberTooLarge, WeightNotTaken, NoSuchColumn}
 use Rattle.refusals.specs.Refusing.{refuse, first, answer, unless}
@@ -51,17 +52,25 @@ added m a ws = record { rows = m.rows + 1; limit = m.limit; totals = grown m.tot
 abbrev pub cleared : Meaning → Meaning
 cleared m = record { rows = 0; limit = m.limit; totals = replicate (columns_of m) (pos 0); takes = m.takes }
 
+-- the first column whose weight is not taken
+abbrev pub first_untaken : (ℤ → Bool) → List ℤ → Option ℕ
+first_untaken takes ws = position_from (λ w. not (takes w)) 0 ws
+
 -- the refusal of the first weight that is not taken, its column counted on from `column`
 abbrev pub untaken : (ℤ → Bool) → (ℕ → Refusal) → ℕ → List ℤ → Option Refusal
 untaken takes refusal column [] = None
 untaken takes refusal column (w ∷ ws) = cond (takes w) (untaken takes refusal (column + 1) ws) (Some (refusal column))
+
+-- an aligned number lies below 2^36 in magnitude
+abbrev pub number_check : ℤ → Option Refusal
+number_check a = refuse (nat_le (2 ^ 36) (unsigned_abs a)) NumberTooLarge
 
 -- what refuses an add
 abbrev pub add_check : Meaning → ℤ → List ℤ → Option Refusal
 add_check m a ws =
     first (refuse (not (length ws == columns_of m)) WeightCount)
     (first (refuse (nat_le m.limit m.rows) RowLimit)
-    (first (refuse (nat_le (2 ^ 36) (unsigned_abs a)) NumberTooLarge)
+    (first (number_check a)
     (untaken m.takes WeightNotTaken 0 ws)))
 
 -- what a call of add leaves

@@ -1,6 +1,6 @@
 -- What the multiplier unit means.
 use Rattle.std.specs.Prelude.{ℕ, Bool, take, replicate, ℤ, pos, nat_le, unsigned_abs}
-use Rattle.units.specs.declared.Multiplier.{Multiplier}
+use Rattle.units.specs.declared.multiply.Multiplier.{Multiplier}
 use Rattle.units.specs.Meaning.{Meaning}
 
 -- the weights of -255 to 255
@@ -9,7 +9,7 @@ takes_every w = nat_le (unsigned_abs w) 255
 
 -- room for 128 rows, and for each column in use its sum as the total
 abbrev pub multiplier : Multiplier → Meaning
-multiplier u = record { rows = u.rows; limit = 128; totals = take u.columns u.sums; takes = takes_every }
+multiplier u = record { rows = u.rows; limit = 128; totals = take u.columns.count u.sums; takes = takes_every }
 
 -- a new multiplier
 abbrev pub fresh_multiplier : ℕ → Meaning

@@ -1,13 +1,16 @@
 // A unit sums activation × weight, column by column. This crate has what every unit does, and the multiplier unit.
 #![tactic(auto)]
 
-ghost use Rattle.std.specs.Prelude.{◌≡◌, ◌≤◌, length};
-ghost use Rattle.refusals.specs.Refusing.{verdict};
-ghost use Rattle.units.specs.Meaning.{Meaning, Lawful, Bounded, reach, columns_of, add_check, after_add, cleared, total_at};
+ghost use Rattle.std.specs.Prelude.{◌≡◌};
+ghost use Rattle.refusals.specs.Refusing.{Made, verdict};
+ghost use Rattle.units.specs.Meaning.{Meaning, Lawful, columns_of, add_check, after_add, cleared, first_untaken, total_at};
 
 mod multiply;
+mod row;
 
+pub use multiply::Multiplier;
 use refusals::Refusal;
+pub use row::{Number, Row};
 
 pub trait Unit {
     // What the unit holds and takes. Every call is told by this alone.
@@ -30,9 +33,16 @@ pub trait Unit {
     fn total(&self, column: usize) -> Result<i64, Refusal>
         ensures { result ≡ total_at (meaning self.now) column };
 
-    // What an add of this row would answer.
-    fn check(&self, a: i64, weights: &[i16]) -> Result<(), Refusal>
-        ensures { result ≡ verdict (add_check (meaning self.now) a weights.now) }
+    // The first column whose weight the unit does not take.
+    fn untaken(&self, weights: &[i16]) -> Option<usize>
+        ensures { result ≡ first_untaken (meaning self.now).takes weights.now }
+    {
+        weights.iter().position(|weight| !self.takes(*weight))
+    }
+
+    // The row, or what an add of it would be refused by.
+    fn check<'a>(&self, a: i64, weights: &'a [i16]) -> Result<Row<'a>, Refusal>
+        ensures { Made (add_check (meaning self.now) a weights.now) (λ r. (r.number.value ≡ a) × (r.weights.now ≡ weights.now)) result }
     {
         if weights.len() != self.columns() {
             return Err(Refusal::WeightCount);
@@ -40,15 +50,11 @@ pub trait Unit {
         if self.rows() >= self.limit() {
             return Err(Refusal::RowLimit);
         }
-        if a <= -(1 << 36) || a >= 1 << 36 {
-            return Err(Refusal::NumberTooLarge);
+        let number = Number::new(a)?;
+        if let Some(column) = self.untaken(weights) {
+            return Err(Refusal::WeightNotTaken { column });
         }
-        for (column, weight) in weights.iter().enumerate() {
-            if !self.takes(*weight) {
-                return Err(Refusal::WeightNotTaken { column });
-            }
-        }
-        Ok(())
+        Ok(Row { number, weights })
     }
 
     // Adds a row: each total grows by `a` × its weight.
@@ -61,18 +67,4 @@ pub trait Unit {
         ensures clears { meaning self.new ≡ cleared (meaning self.old) };
 
     ghost lawful: { (u : Self) → Lawful (meaning u) };
-}
-
-// The multiplier unit: one sum for each column, to which it adds each product.
-#[derive(Drop)]
-pub struct Multiplier {
-    columns: usize,
-    rows: u32,
-    // The first `columns` of these are the totals.
-    sums: [i64; 16],
-    ghost wide: { length sums ≡ 16 },
-    ghost some: { 1 ≤ columns },
-    ghost few: { columns ≤ 16 },
-    ghost short: { rows ≤ 128 },
-    ghost bounded: { Bounded (reach rows) sums },
 }

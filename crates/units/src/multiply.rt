@@ -1,62 +1,72 @@
-// What the multiplier unit does.
-ghost use Rattle.std.specs.Prelude.{◌≡◌, ◌^◌, ◌<◌, ◌≤◌, length, ◌+ℤ◌, ◌*ℤ◌, unsigned_abs};
+// The multiplier unit: one sum for each column, to which it adds each product.
+ghost use Rattle.std.specs.Prelude.{◌≡◌, ◌≤◌, length, ◌+ℤ◌, ◌*ℤ◌, unsigned_abs};
 ghost use Rattle.columns.specs.Columns.{columns_check};
 ghost use Rattle.refusals.specs.Refusing.{Made};
 ghost use Rattle.units.specs.Meaning.{Bounded, reach, grown};
-ghost use Rattle.units.specs.Multiplier.{multiplier, fresh_multiplier};
-ghost use Rattle.units.specs.Lawful.{multiplier_lawful};
 
-use crate::{Multiplier, Unit};
+use crate::Unit;
+use crate::row::{Number, Row};
+use columns::{Columns, MOST_COLUMNS};
 use refusals::Refusal;
 
 // The rows that a multiplier has room for.
 const LIMIT: u32 = 128;
 
-// A sum with one product more.
-fn raised(sum: i64, a: i64, weight: i16) -> i64
-    requires bounded { unsigned_abs sum ≤ reach 65536 }
-    requires small { unsigned_abs a < 2 ^ 36 }
-    requires light { unsigned_abs weight ≤ 255 }
-    ensures { result ≡ sum +ℤ a *ℤ weight }
-{
-    sum + a * i64::from(weight)
+#[derive(Drop)]
+pub struct Multiplier {
+    columns: Columns,
+    rows: u32,
+    // The first `columns` of these are the totals.
+    sums: [i64; MOST_COLUMNS],
+    ghost wide: { length sums ≡ 16 },
+    ghost short: { rows ≤ 128 },
+    ghost bounded: { Bounded (reach rows) sums },
 }
 
-// Grows each sum that has a weight by `a` × that weight.
-fn grow(sums: &mut [i64], a: i64, weights: &[i16])
-    requires enough { length weights.now ≤ length sums.old }
-    requires small { unsigned_abs a < 2 ^ 36 }
-    requires light { Bounded 255 weights.now }
-    requires bounded { Bounded (reach 65536) sums.old }
-    ensures { sums.new ≡ grown sums.old a weights.now }
+// A sum with one product more.
+fn raised(sum: i64, number: Number, weight: i16) -> i64
+    requires bounded { unsigned_abs sum ≤ reach 65536 }
+    requires light { unsigned_abs weight ≤ 255 }
+    ensures { result ≡ sum +ℤ number.value *ℤ weight }
 {
-    for (column, weight) in weights.iter().enumerate() {
-        sums[column] = raised(sums[column], a, *weight);
+    sum + number.value * i64::from(weight)
+}
+
+// Grows each sum that has a weight by the number × that weight.
+fn grow(sums: &mut [i64; MOST_COLUMNS], row: Row<'_>)
+    requires { Bounded (reach 65536) sums.old }
+    ensures { sums.new ≡ grown sums.old row.entry.number.value row.entry.weights.now }
+{
+    for (column, weight) in row.weights.iter().enumerate() {
+        sums[column] = raised(sums[column], row.number, *weight);
     }
 }
 
 impl Multiplier {
+    ghost use Rattle.units.specs.Multiplier.{multiplier, fresh_multiplier};
+
     pub fn new(columns: usize) -> Result<Multiplier, Refusal>
         ensures { Made (columns_check columns) (λ u. multiplier u ≡ fresh_multiplier columns) result }
     {
-        if columns == 0 || columns > 16 {
-            return Err(Refusal::ColumnCount);
-        }
+        let columns = Columns::new(columns)?;
         Ok(Multiplier {
             columns,
             rows: 0,
-            sums: [0; 16],
+            sums: [0; MOST_COLUMNS],
         })
     }
 }
 
 impl Unit for Multiplier {
+    ghost use Rattle.units.specs.Multiplier.{multiplier};
+    ghost use Rattle.units.specs.Lawful.{multiplier_lawful};
+
     ghost meaning = { multiplier };
 
     ghost lawful = { multiplier_lawful };
 
     fn columns(&self) -> usize {
-        self.columns
+        self.columns.count()
     }
 
     fn rows(&self) -> u32 {
@@ -68,11 +78,11 @@ impl Unit for Multiplier {
     }
 
     fn takes(&self, weight: i16) -> bool {
-        -255 <= weight && weight <= 255
+        (-255..=255).contains(&weight)
     }
 
     fn total(&self, column: usize) -> Result<i64, Refusal> {
-        if column < self.columns {
+        if column < self.columns.count() {
             Ok(self.sums[column])
         } else {
             Err(Refusal::NoSuchColumn)
@@ -80,14 +90,14 @@ impl Unit for Multiplier {
     }
 
     fn add(&mut self, a: i64, weights: &[i16]) -> Result<(), Refusal> {
-        self.check(a, weights)?;
+        let row = self.check(a, weights)?;
         self.rows += 1;
-        grow(&mut self.sums, a, weights);
+        grow(&mut self.sums, row);
         Ok(())
     }
 
     fn clear(&mut self) {
         self.rows = 0;
-        self.sums = [0; 16];
+        self.sums = [0; MOST_COLUMNS];
     }
 }

@@ -1,32 +1,27 @@
-use Rattle.std.proofs.Common.{◌≡◌, ◌^◌, ◌<◌, true, false, get_or, pos, nat_abs, refl, ◌∙◌, arith, rules}
-use Rattle.std.proofs.lemmas.Int.{ints}
-use Rattle.std.proofs.lemmas.List.{at_drop_all}
+use Rattle.std.proofs.Common.{◌≡◌, refl, ap, ◌∙◌, arith}
+use Rattle.std.specs.Option.{option_map}
 use Rattle.refusals.specs.declared.Refusal.TheVariants.{WeightNotTaken}
-use Rattle.refusals.proofs.Refusing.{refused, accepted}
-use Rattle.units.specs.Meaning.{untaken}
-use Rattle.units.proofs.Checks.{weights_decide, untaken_more, untaken_here}
+use Rattle.refusals.proofs.Refusing.{made, unmade}
+use Rattle.units.proofs.Checks.{number_at_ok, column_decides, when_accepted, weights_bounded}
 use Rattle.units.proofs.Unit.check.Goals as goal
 
-pub loop-column-preserved : goal.loop-column-preserved
-loop-column-preserved g c =
-    let takes = (g.Self.Unit.meaning c.args.self.now).takes in
-    let ws = c.args.weights.now in
-    let taken : takes (get_or ws c.loop-column.column (pos 0)) ≡ true = search rules in
-    c.loop-column.invariant ∙ untaken_more takes WeightNotTaken ws _ c.loop-column-test.true taken
+pub returns-in-Some : goal.returns-in-Some
+returns-in-Some g c =
+    let m = g.Self.Unit.meaning c.args.self.now in
+    let number = number_at_ok c.args.a c.in_ok-number.number c.ranges.a c.in_ok-number.ensures in
+    unmade _ _ _ (column_decides m c.args.a c.args.weights.now _ (omega arith) (omega arith) number.1 c.untaken.ensures ∙ ap (option_map WeightNotTaken) c.in-Some.is)
 
-pub returns-then-not-takes : goal.returns-then-not-takes
-returns-then-not-takes g c =
+pub invariant_of-result : goal.invariant_of-result
+invariant_of-result g c =
     let m = g.Self.Unit.meaning c.args.self.now in
     let ws = c.args.weights.now in
-    let left : m.takes (get_or ws c.loop-column.column (pos 0)) ≡ false = search rules in
-    let small : nat_abs c.args.a < 2 ^ 36 = omega (arith, ints) in
-    let decide = weights_decide m c.args.a ws (omega arith) (omega arith) small in
-    refused tt (decide ∙ c.loop-column.invariant ∙ untaken_here m.takes WeightNotTaken ws _ c.loop-column-test.true left)
+    let law = g.met.Self.Unit.lawful c.args.self.now in
+    let number = number_at_ok c.args.a c.in_ok-number.number c.ranges.a c.in_ok-number.ensures in
+    let passes = column_decides m c.args.a ws _ (omega arith) (omega arith) number.1 c.untaken.ensures ∙ ap (option_map WeightNotTaken) c.in_default.is in
+    record { few = omega (arith, law.few_columns); light = weights_bounded m c.args.a ws law.taken (when_accepted m c.args.a ws passes) }
 
 pub returns : goal.returns
 returns g c =
     let m = g.Self.Unit.meaning c.args.self.now in
-    let ws = c.args.weights.now in
-    let small : nat_abs c.args.a < 2 ^ 36 = omega (arith, ints) in
-    let decide = weights_decide m c.args.a ws (omega arith) (omega arith) small in
-    accepted (decide ∙ c.loop-column.invariant ∙ at_drop_all (untaken m.takes WeightNotTaken c.loop-column.column) ws _ c.loop-column-test.false) refl
+    let number = number_at_ok c.args.a c.in_ok-number.number c.ranges.a c.in_ok-number.ensures in
+    made _ _ _ (column_decides m c.args.a c.args.weights.now _ (omega arith) (omega arith) number.1 c.untaken.ensures ∙ ap (option_map WeightNotTaken) c.in_default.is) (number.0, refl)

@@ -7,6 +7,6 @@ use Rattle.units.proofs.multiply.MultiplierUnit.clear.Goals as goal
 pub returns : goal.returns
 returns c =
     let u = c.args.self.now in
-    let counted : length (take u.columns u.sums) ≡ u.columns = simp length-take (omega (arith, u.wide, u.few)) in
+    let counted : length (take u.columns.count u.sums) ≡ u.columns.count = simp length-take (omega (arith, u.wide, u.columns.few)) in
     let with_totals : List ℤ → Meaning = λ ts. record { rows = 0; limit = 128; totals = ts; takes = takes_every } in
-    record { clears = ap with_totals (take-replicate u.columns 16 (pos 0) u.few ∙ ap (λ n. replicate n (pos 0)) (sym counted)) }
+    record { clears = ap with_totals (take-replicate u.columns.count 16 (pos 0) u.columns.few ∙ ap (λ n. replicate n (pos 0)) (sym counted)) }
