@@ -1,9 +1,9 @@
 -- The plane unit: sums for the powers of two, and what adding a or -a to them does to what they weigh.
-use Rattle.std.specs.Prelude.{◌≡◌, ℕ, zero, suc, ◌+◌, ◌-◌, ◌*◌, ◌/◌, ◌%◌, ◌^◌, ◌<◌, ◌≤◌, Bool, true, false, cond, List, [], ◌∷◌, map, length, get_or, take, drop, set, replicate, ℤ, pos, ◌+ℤ◌, ◌*ℤ◌, neg_ℤ, ◌==◌, ◌≢◌, slice_index_or, slice_set, unsigned_abs, refl}
+use Rattle.std.specs.Prelude.{◌≡◌, ℕ, zero, suc, ◌+◌, ◌-◌, ◌*◌, ◌/◌, ◌%◌, ◌^◌, ◌<◌, ◌≤◌, Bool, true, false, cond, List, [], ◌∷◌, map, length, reverse, get_or, take, drop, set, replicate, ℤ, pos, ◌+ℤ◌, ◌*ℤ◌, neg_ℤ, ◌==◌, ◌≢◌, slice_index_or, slice_set, unsigned_abs, refl}
 use Rattle.std.proofs.Common.{sym, ap, subst, ◌∙◌, arith, le_of_suc-le-suc, pow-suc, div-one, add-one}
 use Rattle.std.proofs.lemmas.Int.{ints}
 use Rattle.std.proofs.lemmas.Nat.{shr-shr}
-use Rattle.std.proofs.lemmas.List.{at_drop_more, length-take-le, get_or-map, get_or-take, take-replicate}
+use Rattle.std.proofs.lemmas.List.{at_drop_more, length-take-le, length-reverse, get_or-map, get_or-take, get_or-reverse, get_or_default, take-replicate}
 use Rattle.std.proofs.lemmas.Bool.{cond_both, and_parts, leb-true, eqb-true, eqb-false}
 use Rattle.units.specs.Meaning.{Bounded, plus_each, grown}
 use Rattle.planes.specs.Columns.{Eights, EachBounded, SignsWeigh, takes_odd, code, signed, signs, weigh, spread}
@@ -135,6 +135,25 @@ pub weigh_down : (ss : List ℤ) (p : ℕ) → 0 < p → p ≤ length ss → wei
 weigh_down ss p low high =
     let next : p - 1 + 1 ≡ p = omega arith in
     at_drop_more weigh ss (p - 1) (pos 0) (omega arith) ∙ ap (λ i. slice_index_or ss (p - 1) (pos 0) +ℤ (weigh (drop i ss) +ℤ weigh (drop i ss))) next
+
+-- a loop's step from the last sum back: k of the eight are weighed, and x is the next
+pub record Weighed (ss : List ℤ) (k : ℕ) (x : ℤ) : Type 0 where
+  pub so_far : unsigned_abs (weigh (drop (8 - k) ss)) ≤ 255 * (64 * 2 ^ 36)
+  pub more : unsigned_abs x ≤ 64 * 2 ^ 36
+  pub step : weigh (drop (8 - (k + 1)) ss) ≡ x +ℤ (weigh (drop (8 - k) ss) +ℤ weigh (drop (8 - k) ss))
+
+pub weighed_more : (ss : List ℤ) (k : ℕ) (x : ℤ) → length ss ≡ 8 → Bounded (64 * 2 ^ 36) ss → k < length (reverse ss) → x ≡ get_or (reverse ss) k x → Weighed ss k x
+weighed_more ss k x eight bounded here read =
+    let inside : k < length ss = omega (arith, length-reverse ss) in
+    let place : length ss - 1 - k ≡ 8 - k - 1 = omega arith in
+    let next : 8 - (k + 1) ≡ 8 - k - 1 = omega arith in
+    let item : x ≡ slice_index_or ss (8 - k - 1) (pos 0) =
+    read ∙ get_or-reverse ss k x inside ∙ get_or_default ss (length ss - 1 - k) x (pos 0) (omega arith) ∙ ap (λ i. get_or ss i (pos 0)) place in
+    record {
+      so_far = drop_bounded _ (8 - k) ss eight bounded;
+      more = rw item (bounded (8 - k - 1));
+      step = ap (λ i. weigh (drop i ss)) next ∙ weigh_down ss (8 - k) (omega arith) (omega arith) ∙ ap (λ z. z +ℤ (weigh (drop (8 - k) ss) +ℤ weigh (drop (8 - k) ss))) (sym item);
+    }
 
 pub get_or_signs : (k : ℕ) (a : ℤ) (n j : ℕ) → j < k → slice_index_or (signs k a n) j (pos 0) ≡ signed a (n / 2 ^ j)
 get_or_signs zero a n j h = absurd (omega arith)

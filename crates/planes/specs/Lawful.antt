@@ -52,13 +52,13 @@ plane_columns n cs h = length-map (take n cs) weigh ∙ length-take-le n cs h
 
 pub plane_lawful : (u : Plane) → Lawful (plane u)
 plane_lawful u =
-    let counted = plane_columns u.columns u.sums (omega (arith, u.wide, u.few)) in
+    let counted = plane_columns u.columns.count u.sums (omega (arith, u.wide, u.columns.few)) in
     record {
-      some_column = omega (arith, counted, u.some);
-      few_columns = omega (arith, counted, u.few);
+      some_column = omega (arith, counted, u.columns.some);
+      few_columns = omega (arith, counted, u.columns.few);
       some_row = omega arith;
       few_rows = omega arith;
       within = u.short;
       taken = λ w t. leb-true (unsigned_abs w) 255 (and_parts _ _ (true_from_T _ t)).0;
-      bounded = plane_bounded u.columns u.rows u.sums u.eights u.bounded;
+      bounded = plane_bounded u.columns.count u.rows u.sums u.eights u.bounded;
     }

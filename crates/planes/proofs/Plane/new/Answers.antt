@@ -1,21 +1,23 @@
-use Rattle.std.proofs.Common.{List, ℤ, refl, ap, arith, rules}
+use Rattle.std.proofs.Common.{◌≡◌, List, replicate, ℤ, pos, ap, ◌∙◌}
+use Rattle.columns.specs.Columns.{columns_check}
+use Rattle.refusals.proofs.Refusing.{made, was_made}
 use Rattle.units.specs.Meaning.{Meaning}
 use Rattle.planes.specs.Columns.{takes_odd}
-use Rattle.refusals.proofs.Refusing.{made}
-use Rattle.units.proofs.Checks.{columns_pass}
-use Rattle.planes.proofs.Powers.{signs_weigh, plane_zeros, zero_eights, zero_bounded}
+use Rattle.planes.specs.Plane.{plane, fresh_plane}
+use Rattle.planes.proofs.Powers.{signs_weigh, plane_zeros}
 use Rattle.planes.proofs.Plane.new.Goals as goal
 
-pub invariant_of-result : goal.invariant_of-result
-invariant_of-result c = record { wide = refl; eights = zero_eights 16; some = omega arith; few = omega arith; short = omega arith; bounded = zero_bounded 0 16 }
+pub returns-in_err-columns-clause-weighs : goal.returns-in_err-columns-clause-weighs
+returns-in_err-columns-clause-weighs c = signs_weigh
 
-pub returns-then-columns-eq0 : goal.returns-then-columns-eq0
-returns-then-columns-eq0 c = record { made = search rules; weighs = signs_weigh }
-
-pub returns : goal.returns
-returns c =
+pub returns-clause-made : goal.returns-clause-made
+returns-clause-made c =
+    let n = c.args.columns in
     let with_totals : List ℤ → Meaning = λ ts. record { rows = 0; limit = 64; totals = ts; takes = takes_odd } in
-    record {
-      made = made _ _ _ (columns_pass c.args.columns (omega arith) (omega arith)) (ap with_totals (plane_zeros c.args.columns (omega arith)));
-      weighs = signs_weigh;
-    }
+    let columns = c.in_ok-columns.columns in
+    let counted = was_made (columns_check n) (λ x. x.count ≡ n) columns c.in_ok-columns.ensures in
+    made (columns_check n) (λ u. plane u ≡ fresh_plane n) _ counted.0
+    (ap with_totals (plane_zeros columns.count columns.few ∙ ap (λ k. replicate k (pos 0)) counted.1))
+
+pub returns-clause-weighs : goal.returns-clause-weighs
+returns-clause-weighs c = signs_weigh

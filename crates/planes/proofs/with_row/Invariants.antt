@@ -1,7 +1,7 @@
 use Rattle.std.proofs.Common.{◌≡◌, take}
 use Rattle.units.specs.Meaning.{plus_each}
 use Rattle.planes.specs.Columns.{signs}
-use Rattle.planes.proofs.calls.with_row.Given as goal
+use Rattle.planes.proofs.with_row.Given as goal
 
 abbrev pub invariant-loop-power : goal.invariant-loop-power
-invariant-loop-power l = l.sums ≡ plus_each l.initial.sums (take l.power (signs 8 l.a l.bits))
+invariant-loop-power l = l.sum-items ≡ plus_each l.initial.sum-items (take l.power (signs 8 l.number.value l.bits))

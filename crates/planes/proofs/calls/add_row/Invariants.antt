@@ -1,6 +1,0 @@
-use Rattle.std.proofs.Common.{◌≡◌, take}
-use Rattle.planes.specs.Columns.{spread}
-use Rattle.planes.proofs.calls.add_row.Given as goal
-
-abbrev pub invariant-loop-column : goal.invariant-loop-column
-invariant-loop-column l = l.sums ≡ spread l.initial.sums l.a (take l.column l.weights)
