@@ -1,16 +1,17 @@
 -- The drain layer: what moving up and handing down make of what it means, and why it never shows a bound.
-use Rattle.std.specs.Prelude.{◌≡◌, ℕ, zero, suc, ◌+◌, ◌<◌, ◌≤◌, min, List, [], ◌∷◌, map, length, get_or, take, replicate, ℤ, pos, ◌+ℤ◌, ◌*ℤ◌, Ok, ◌==◌, ◌≢◌, slice_index_or, slice_set, unsigned_abs, refl}
+use Rattle.std.specs.Prelude.{◌≡◌, ℕ, zero, suc, ◌+◌, ◌<◌, ◌≤◌, min, List, [], ◌∷◌, ◌++◌, map, length, get_or, take, drop, replicate, ℤ, pos, ◌+ℤ◌, ◌*ℤ◌, Ok, ◌==◌, ◌≢◌, slice_index_or, slice_set, unsigned_abs, refl}
 use Rattle.std.proofs.Common.{sym, ap, subst, ◌∙◌, arith, le_of_suc-le-suc}
-use Rattle.std.proofs.lemmas.List.{length-map}
+use Rattle.std.proofs.lemmas.List.{length-map, length-take-le}
 use Rattle.std.proofs.lemmas.Bool.{cond_both, eqb-false}
 use Rattle.std.proofs.lemmas.Int.{ints}
 use Rattle.units.specs.Meaning.{Meaning, Lawful, Bounded, columns_of, reach, plus_each, add_check, added, after_add, cleared, total_at}
+use Rattle.units.specs.Lawful.{take_bounded}
 use Rattle.units.proofs.Checks.{Accepted, when_accepted, added_lawful, cleared_lawful, total_read, total_there, total_bounded, unless_both, unless_map}
 use Rattle.units.proofs.Reach.{length_plus, get_or_plus, plus_bounded, plus_more, get_or_plus_past, zeros_bounded}
 use Rattle.layers.specs.Layer.{held, shown, unit_after}
 use Rattle.layers.specs.Drain.{DrainState, drain_on, drain_made, drain_states, drain, fresh_drain, moved_up, room_made, handed_down, drain_add, drain_clear, drain_after, DrainUnclamped, DrainSingle}
 use Rattle.layers.proofs.Events.{after_keeps, as_single}
-use Rattle.layers.proofs.Shown.{get_or_shown, map_held, shown_same}
+use Rattle.layers.proofs.Shown.{map_held, shown_same}
 
 -- ---- lists of sums
 plus_swap : (xs ys zs : List ℤ) → plus_each (plus_each xs ys) zs ≡ plus_each (plus_each xs zs) ys
@@ -29,6 +30,13 @@ plus_moved [] (y ∷ ys) h = absurd (omega arith)
 plus_moved (x ∷ xs) (y ∷ ys) h =
     let head : pos 0 +ℤ (x +ℤ y) ≡ y +ℤ x = omega (arith, ints) in
     ap (λ t. t ∷ plus_each (replicate (length ys) (pos 0)) (plus_each xs ys)) head ∙ ap (λ ts. (y +ℤ x) ∷ ts) (plus_moved xs ys (le_of_suc-le-suc h))
+
+-- a front as long as the second list takes all of it
+pub plus_front : (xs ys : List ℤ) → length ys ≤ length xs → plus_each (take (length ys) xs) ys ++ drop (length ys) xs ≡ plus_each xs ys
+plus_front [] [] h = refl
+plus_front (x ∷ xs) [] h = refl
+plus_front [] (y ∷ ys) h = absurd (omega arith)
+plus_front (x ∷ xs) (y ∷ ys) h = ap (λ zs. (x +ℤ y) ∷ zs) (plus_front xs ys (le_of_suc-le-suc h))
 
 plus_zeros : (n m : ℕ) → plus_each (replicate n (pos 0)) (replicate m (pos 0)) ≡ replicate n (pos 0)
 plus_zeros zero m = refl
@@ -51,16 +59,14 @@ moved m sums now' i x law wide bounded so_far read =
       step = (cc (total.1, so_far)) ∙ sym (plus_more sums m.totals i (omega (arith, total.0)) total.0);
     }
 
+-- the same where the front of the sums is gone over that has a total for each
+pub moved_front : (m : Meaning) (sums now' : List ℤ) (n i : ℕ) (x : ℤ) → Lawful m → n ≡ columns_of m → length sums ≡ 16 → Bounded (reach 65536) sums → now' ≡ plus_each (take n sums) (take i m.totals) → total_at m i ≡ Ok x → Moved m (take n sums) now' i x
+moved_front m sums now' n i x law counted wide bounded so_far read =
+    moved m (take n sums) now' i x law (omega (arith, counted, length-take-le n sums (omega (arith, counted, law.few_columns, wide)))) (take_bounded _ n sums bounded) so_far read
+
 -- ---- what a drain means
 pub drain_columns : (s : DrainState) → columns_of (drain s) ≡ columns_of s.below
 drain_columns s = length-map _ _ ∙ length_plus s.below.totals s.sums
-
-pub drain_total : (s : DrainState) (c : ℕ) → c < columns_of s.below → total_at (drain s) c ≡ Ok (held (reach (min 65536 (s.rows + s.below.rows))) (slice_index_or s.below.totals c (pos 0) +ℤ slice_index_or s.sums c (pos 0)))
-drain_total s c h =
-    let bound = reach (min 65536 (s.rows + s.below.rows)) in
-    let totals = s.below.totals in
-    total_there (drain s) c (omega (arith, h, drain_columns s))
-    ∙ ap Ok (get_or_shown bound (plus_each totals s.sums) c (omega (arith, h, length_plus totals s.sums)) ∙ ap (held bound) (get_or_plus totals s.sums c h))
 
 -- a drain whose parts keep their bounds
 pub record Sound (s : DrainState) : Type 0 where
@@ -73,6 +79,12 @@ pub drain_shows : (s : DrainState) → Sound s → s.rows + s.below.rows ≤ 655
 drain_shows s sound short =
     shown_same (drain_states s) short
     (λ c. omega (arith, plus_bounded (reach s.below.rows) (reach s.rows) s.below.totals s.sums sound.law.bounded sound.bounded c))
+
+pub drain_total : (s : DrainState) → Sound s → s.rows + s.below.rows ≤ 65536 → (c : ℕ) → c < columns_of s.below → total_at (drain s) c ≡ Ok (slice_index_or s.below.totals c (pos 0) +ℤ slice_index_or s.sums c (pos 0))
+drain_total s sound short c h =
+    ap (λ m. total_at m c) (drain_shows s sound short)
+    ∙ total_there (drain_states s) c (omega (arith, h, length_plus s.below.totals s.sums))
+    ∙ ap Ok (get_or_plus s.below.totals s.sums c h)
 
 abbrev stated : Meaning → ℕ → List ℤ → Meaning
 stated b rows ts = record { rows = rows; limit = 65536; totals = ts; takes = b.takes }

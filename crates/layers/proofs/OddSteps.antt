@@ -11,9 +11,10 @@ use Rattle.units.proofs.Checks.{Accepted, T_from_true, when_accepted, added_lawf
 use Rattle.integers.proofs.Laws.{abs_sum, product_sum}
 use Rattle.units.proofs.Reach.{zeros_bounded}
 use Rattle.layers.specs.Layer.{held, unit_after}
-use Rattle.layers.specs.Odd.{OddState, odd_made, odd_of, half, odd_states, odd, fresh_odd, odd_handed_down, odd_add, odd_clear, odd_after, OddUnclamped, OddSingle}
+use Rattle.layers.specs.Halving.{odd_of, half}
+use Rattle.layers.specs.Odd.{OddState, odd_made, odd_states, odd, fresh_odd, odd_handed_down, odd_add, odd_clear, odd_after, OddUnclamped, OddSingle}
 use Rattle.layers.proofs.Events.{after_keeps, as_single}
-use Rattle.layers.proofs.Shown.{get_or_shown, map_held, shown_same}
+use Rattle.layers.proofs.Shown.{map_held, shown_same}
 
 -- ---- numbers
 -- a × (2w + 1) is twice a × w, and a
@@ -80,14 +81,6 @@ halves_zeros (suc n) = ap (λ ts. pos 0 ∷ ts) (halves_zeros n)
 pub odd_columns : (s : OddState) → columns_of (odd s) ≡ columns_of s.below
 odd_columns s = length-map _ _ ∙ length-map s.below.totals (λ t. half (t -ℤ s.sum))
 
-pub odd_total : (s : OddState) (c : ℕ) → c < columns_of s.below → total_at (odd s) c ≡ Ok (held (reach (min s.below.limit (max s.rows s.below.rows))) (half (slice_index_or s.below.totals c (pos 0) -ℤ s.sum)))
-odd_total s c h =
-    let bound = reach (min s.below.limit (max s.rows s.below.rows)) in
-    let halved : ℤ → ℤ = λ t. half (t -ℤ s.sum) in
-    let totals = s.below.totals in
-    total_there (odd s) c (omega (arith, h, odd_columns s))
-    ∙ ap Ok (get_or_shown bound (halves s.sum totals) c (omega (arith, h, length-map totals halved)) ∙ ap (held bound) (get_or-map halved totals c (pos 0) (pos 0) h))
-
 -- an odd layer whose parts keep their bounds
 pub record Sound (s : OddState) : Type 0 where
   pub law : Lawful s.below
@@ -98,6 +91,13 @@ pub odd_shows : (s : OddState) → Sound s → s.rows ≤ s.below.limit → odd 
 odd_shows s sound short =
     shown_same (odd_states s) (omega (arith, sound.law.within))
     (halves_bounded s.sum s.rows s.below.rows s.below.totals sound.law.bounded sound.bounded)
+
+pub odd_total : (s : OddState) → Sound s → s.rows ≤ s.below.limit → (c : ℕ) → c < columns_of s.below → total_at (odd s) c ≡ Ok (half (slice_index_or s.below.totals c (pos 0) -ℤ s.sum))
+odd_total s sound short c h =
+    let halved : ℤ → ℤ = λ t. half (t -ℤ s.sum) in
+    ap (λ m. total_at m c) (odd_shows s sound short)
+    ∙ total_there (odd_states s) c (omega (arith, h, length-map s.below.totals halved))
+    ∙ ap Ok (get_or-map halved s.below.totals c (pos 0) (pos 0) h)
 
 abbrev stated : Meaning → ℕ → List ℤ → Meaning
 stated b rows ts = record { rows = rows; limit = b.limit; totals = ts; takes = λ w. b.takes (odd_of w) }
@@ -114,16 +114,6 @@ module _ (s : OddState) (sound : Sound s) (a : ℤ) (ws : List ℤ) (ok : Accept
         let h' : c < length ws = omega (arith, h, length-map ws odd_of) in
         ap s.below.takes (get_or-map odd_of ws c (pos 0) (pos 0) h') ∙ ok.taken c h';
   }
-
-  pub few_weights : length ws ≤ 16
-  few_weights = omega (arith, ok.one_each, odd_columns s, sound.law.few_columns)
-
-  pub light_weights : Bounded 128 ws
-  light_weights c =
-      ⊎_elim
-      (λ h. let light = sound.law.taken (odd_of (slice_index_or ws c (pos 0))) (T_from_true _ (ok.taken c h)) in omega (arith, ints))
-      (λ h. rw (get_or_past ws c (pos 0) h) (omega arith))
-      (cases_lt c (length ws))
 
   pub sum_bounded : unsigned_abs (s.sum +ℤ a) ≤ (s.rows + 1) * 2 ^ 36
   sum_bounded = omega (arith, ints, abs_sum s.sum a, ok.small, sound.bounded)

@@ -1,9 +1,6 @@
 -- What a layer shows: it keeps the laws, and within them it is what the layer states.
 use Rattle.std.specs.Prelude.{◌≡◌, ℕ, suc, ◌<◌, ◌≤◌, min, List, [], ◌∷◌, map, length, ℤ, pos, negsuc, neg_ℤ, slice_index_or, unsigned_abs, refl}
 use Rattle.std.proofs.Common.{ap, ◌∙◌, arith}
-use Rattle.std.proofs.lemmas.List.{get_or-map}
-use Rattle.std.proofs.lemmas.Int.{ints, clamps}
-use Rattle.std.specs.Int.{int_max, int_min}
 use Rattle.units.specs.Meaning.{Meaning, Bounded, reach}
 use Rattle.layers.specs.Layer.{held, shown}
 
@@ -14,14 +11,6 @@ held_same n (negsuc k) h = ap (λ m. neg_ℤ (pos m)) (let e : min n (suc k) ≡
 pub map_held : (n : ℕ) (ts : List ℤ) → Bounded n ts → map (held n) ts ≡ ts
 map_held n [] b = refl
 map_held n (t ∷ ts) b = ap (λ x. x ∷ map (held n) ts) (held_same n t (b 0)) ∙ ap (λ xs. t ∷ xs) (map_held n ts (λ c. b (suc c)))
-
-pub get_or_shown : (n : ℕ) (ts : List ℤ) (c : ℕ) → c < length ts → slice_index_or (map (held n) ts) c (pos 0) ≡ held n (slice_index_or ts c (pos 0))
-get_or_shown n ts c h = get_or-map (held n) ts c (pos 0) (pos 0) h
-
--- as `clamp` has it
-pub held_clamped : (n : ℕ) (z : ℤ) → int_max (neg_ℤ (pos n)) (int_min z (pos n)) ≡ held n z
-held_clamped n (pos k) = omega (arith, ints, clamps)
-held_clamped n (negsuc k) = omega (arith, ints, clamps)
 
 pub shown_same : (m : Meaning) → m.rows ≤ m.limit → Bounded (reach m.rows) m.totals → shown m ≡ m
 shown_same m within bounded =

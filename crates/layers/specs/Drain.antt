@@ -2,7 +2,8 @@
 use Rattle.std.specs.Prelude.{◌≡◌, ℕ, ◌+◌, cond, List, replicate, ℤ, pos, ◌==◌}
 use Rattle.refusals.specs.Refusing.{unless}
 use Rattle.units.specs.Meaning.{Meaning, Lawful, plus_each, cleared, add_check, added}
-use Rattle.layers.specs.declared.Drain.{Drain}
+use Rattle.units.specs.declared.Unit as Unit
+use Rattle.layers.specs.declared.draining.Drain.{Drain}
 use Rattle.layers.specs.Layer.{Event, shown, after, unit_after}
 
 -- the unit below, and what was moved up from it: the rows, and a sum for each column
@@ -16,8 +17,8 @@ abbrev pub drain_on : Meaning → ℕ → List ℤ → DrainState
 drain_on below rows sums = record { below = below; rows = rows; sums = sums }
 
 -- what a drain holds, by what a unit means
-abbrev pub drain_holds : {U : Type 0} → (U → Meaning) → Drain U → DrainState
-drain_holds meaning d = drain_on (meaning d.below) d.rows d.sums
+abbrev pub drain_holds : {U : Type 0} (unit : Unit.Ghosts U) → Drain U unit → DrainState
+drain_holds unit d = drain_on (unit.meaning d.below) d.rows d.sums
 
 -- a drain as it is made: on the unit cleared, with nothing moved up
 abbrev pub drain_made : Meaning → DrainState

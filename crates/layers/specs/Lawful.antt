@@ -8,7 +8,8 @@ use Rattle.units.specs.Meaning.{Meaning, Lawful, columns_of, reach}
 use Rattle.units.proofs.Reach.{length_plus}
 use Rattle.layers.specs.Layer.{held, shown}
 use Rattle.layers.specs.Drain.{DrainState, drain_states, drain}
-use Rattle.layers.specs.Odd.{OddState, odd_of, half, odd_states, odd}
+use Rattle.layers.specs.Halving.{odd_of, half}
+use Rattle.layers.specs.Odd.{OddState, odd_states, odd}
 
 unsigned_abs_held : (n : ℕ) (z : ℤ) → unsigned_abs (held n z) ≤ n
 unsigned_abs_held n (pos k) = omega arith

@@ -2,7 +2,9 @@
 use Rattle.std.specs.Prelude.{◌≡◌, ℕ, ◌+◌, ◌/◌, max, List, map, ℤ, pos, negsuc, ◌+ℤ◌, ◌-ℤ◌}
 use Rattle.refusals.specs.Refusing.{unless}
 use Rattle.units.specs.Meaning.{Meaning, Lawful, cleared, add_check, added}
-use Rattle.layers.specs.declared.Odd.{Odd}
+use Rattle.units.specs.declared.Unit as Unit
+use Rattle.layers.specs.declared.halving.Odd.{Odd}
+use Rattle.layers.specs.Halving.{odd_of, half}
 use Rattle.layers.specs.Layer.{Event, shown, after, unit_after}
 
 -- the unit below, the rows added, and the sum of their aligned numbers
@@ -16,21 +18,12 @@ abbrev pub odd_on : Meaning → ℕ → ℤ → OddState
 odd_on below rows sum = record { below = below; rows = rows; sum = sum }
 
 -- what an odd layer holds, by what a unit means
-abbrev pub odd_holds : {U : Type 0} → (U → Meaning) → Odd U → OddState
-odd_holds meaning d = odd_on (meaning d.below) d.rows d.sum
+abbrev pub odd_holds : {U : Type 0} (unit : Unit.Ghosts U) → Odd U unit → OddState
+odd_holds unit d = odd_on (unit.meaning d.below) d.rows d.sum
 
 -- an odd layer as it is made: on the unit cleared, with no rows
 abbrev pub odd_made : Meaning → OddState
 odd_made below = odd_on (cleared below) 0 (pos 0)
-
--- the weight that is handed down for w: 2w + 1
-abbrev pub odd_of : ℤ → ℤ
-odd_of w = w +ℤ w +ℤ pos 1
-
--- half of a number, rounded down; negsuc n is -(n + 1)
-abbrev pub half : ℤ → ℤ
-half (pos n) = pos (n / 2)
-half (negsuc n) = negsuc (n / 2)
 
 -- a total below less the sum of the aligned numbers is twice the total; w is taken where 2w + 1 is taken below
 abbrev pub odd_states : OddState → Meaning

@@ -2,33 +2,43 @@
 ghost use Rattle.std.specs.Prelude.{◌≡◌, ◌+◌, ◌≤◌, length};
 ghost use Rattle.refusals.specs.Refusing.{verdict};
 ghost use Rattle.units.specs.Meaning.{Bounded, reach, columns_of, plus_each, add_check, after_add, cleared};
-ghost use Rattle.layers.specs.Drain.{DrainUnclamped, DrainSingle, drain_holds, drain_made, drain, fresh_drain, room_made, drain_add, drain_clear, drain_on};
-ghost use Rattle.layers.specs.Lawful.{drain_lawful};
 
-use crate::{Drain, hold};
+use columns::MOST_COLUMNS;
 use refusals::Refusal;
 use units::Unit;
 
 // The rows that a drain has room for.
 const LIMIT: u32 = 65_536;
 
+#[derive(Drop)]
+pub struct Drain<U: Unit> {
+    below: U,
+    // What was moved up: the rows, and a sum for each column.
+    rows: u32,
+    sums: [i64; MOST_COLUMNS],
+    ghost wide: { length sums ≡ 16 },
+    ghost short: { rows + (U.Unit.meaning below).rows ≤ 65536 },
+    ghost bounded: { Bounded (reach rows) sums },
+}
+
 // Adds the unit's totals to the sums.
-fn move_up<U: Unit>(unit: &U, sums: &mut [i64])
-    requires enough { columns_of (U.Unit.meaning unit.now) ≤ length sums.old }
-    requires bounded { Bounded (reach 65536) sums.old }
+fn move_up<U: Unit>(unit: &U, sums: &mut [i64; MOST_COLUMNS])
+    requires { Bounded (reach 65536) sums.old }
     ensures { sums.new ≡ plus_each sums.old (U.Unit.meaning unit.now).totals }
 {
-    for column in 0..unit.columns() {
-        sums[column] += unit.total(column).unwrap();
+    for (column, sum) in sums[..unit.columns()].iter_mut().enumerate() {
+        *sum += unit.total(column).unwrap();
     }
 }
 
 impl<U: Unit> Drain<U> {
+    ghost use Rattle.layers.specs.Drain.{DrainUnclamped, DrainSingle, drain_holds, drain_made, drain, fresh_drain, room_made};
+
     // A drain on the unit, which it clears.
     pub fn new(mut below: U) -> Self
-        ensures made { drain_holds U.Unit.meaning result ≡ drain_made (U.Unit.meaning below) }
+        ensures made { drain_holds U.Unit result ≡ drain_made (U.Unit.meaning below) }
         ensures clears { U.Unit.meaning result.below ≡ cleared (U.Unit.meaning below) }
-        ensures fresh { drain (drain_holds U.Unit.meaning result) ≡ fresh_drain (U.Unit.meaning below) }
+        ensures fresh { drain (drain_holds U.Unit result) ≡ fresh_drain (U.Unit.meaning below) }
         ensures unclamped { DrainUnclamped }
         ensures single { DrainSingle }
     {
@@ -36,7 +46,7 @@ impl<U: Unit> Drain<U> {
         Drain {
             below,
             rows: 0,
-            sums: [0; 16],
+            sums: [0; MOST_COLUMNS],
         }
     }
 
@@ -49,8 +59,7 @@ impl<U: Unit> Drain<U> {
 
     // Moves totals and rows up, and clears below, if the unit below is at its limit.
     fn make_room(&mut self)
-        requires { self.old.rows + (U.Unit.meaning self.old.below).rows ≤ 65536 }
-        ensures { drain_holds U.Unit.meaning self.new ≡ room_made (drain_holds U.Unit.meaning self.old) }
+        ensures { drain_holds U.Unit self.new ≡ room_made (drain_holds U.Unit self.old) }
     {
         if self.below.rows() == self.below.limit() {
             move_up(&self.below, &mut self.sums);
@@ -61,7 +70,10 @@ impl<U: Unit> Drain<U> {
 }
 
 impl<U: Unit> Unit for Drain<U> {
-    ghost meaning = { λ d. drain (drain_holds U.Unit.meaning d) };
+    ghost use Rattle.layers.specs.Drain.{drain_holds, drain, drain_add, drain_clear, drain_on};
+    ghost use Rattle.layers.specs.Lawful.{drain_lawful};
+
+    ghost meaning = { λ d. drain (drain_holds U.Unit d) };
 
     ghost lawful = { λ u. drain_lawful (drain_on (U.Unit.meaning u.below) u.rows u.sums) (U.Unit.lawful u.below) };
 
@@ -70,7 +82,7 @@ impl<U: Unit> Unit for Drain<U> {
     }
 
     fn rows(&self) -> u32 {
-        LIMIT.min(self.rows + self.below.rows())
+        self.rows + self.below.rows()
     }
 
     fn limit(&self) -> u32 {
@@ -83,14 +95,14 @@ impl<U: Unit> Unit for Drain<U> {
 
     fn total(&self, column: usize) -> Result<i64, Refusal> {
         let below = self.below.total(column)?;
-        Ok(hold(below + self.sums[column], self.rows()))
+        Ok(below + self.sums[column])
     }
 
     // Hands the row down as it came, after a move up if the unit below is full.
     fn add(&mut self, a: i64, weights: &[i16]) -> Result<(), Refusal>
-        ensures answers { result ≡ verdict (add_check (drain (drain_holds U.Unit.meaning self.old)) a weights.now) }
-        ensures grows { drain (drain_holds U.Unit.meaning self.new) ≡ after_add (drain (drain_holds U.Unit.meaning self.old)) a weights.now }
-        ensures steps { drain_holds U.Unit.meaning self.new ≡ drain_add (drain_holds U.Unit.meaning self.old) a weights.now }
+        ensures answers { result ≡ verdict (add_check (drain (drain_holds U.Unit self.old)) a weights.now) }
+        ensures grows { drain (drain_holds U.Unit self.new) ≡ after_add (drain (drain_holds U.Unit self.old)) a weights.now }
+        ensures steps { drain_holds U.Unit self.new ≡ drain_add (drain_holds U.Unit self.old) a weights.now }
     {
         self.check(a, weights)?;
         self.make_room();
@@ -98,11 +110,11 @@ impl<U: Unit> Unit for Drain<U> {
     }
 
     fn clear(&mut self)
-        ensures clears { drain (drain_holds U.Unit.meaning self.new) ≡ cleared (drain (drain_holds U.Unit.meaning self.old)) }
-        ensures steps { drain_holds U.Unit.meaning self.new ≡ drain_clear (drain_holds U.Unit.meaning self.old) }
+        ensures clears { drain (drain_holds U.Unit self.new) ≡ cleared (drain (drain_holds U.Unit self.old)) }
+        ensures steps { drain_holds U.Unit self.new ≡ drain_clear (drain_holds U.Unit self.old) }
     {
         self.below.clear();
         self.rows = 0;
-        self.sums = [0; 16];
+        self.sums = [0; MOST_COLUMNS];
     }
 }
