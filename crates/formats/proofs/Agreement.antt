@@ -39,6 +39,9 @@ fields_agree b (suc x) t = go (eqb (suc x) 255)
     go true = not_finite (not b) (eqb t 0)
     go false = rw eqb-suc-zero (finite b (2 ^ 23 + t) x (exponent 8 23 (suc x)) (omega (arith, ints)))
 
-pub agrees : (w : ℕ) → w < 2 ^ 32 → Same (interchange 8 23 w) (of_bits binary32 w)
+at_widths : (w : ℕ) → w < 2 ^ 32 → Same (interchange 8 23 w) (of_bits binary32 w)
 unfolding of_bits
-agrees w h = rw (field_of w 8 23, ← not_not (leb (2 ^ 31) w), ← sign_bit w h) (fields_agree (eqb (w / 2 ^ 31 % 2) 0) (field 8 23 w) (fraction 23 w))
+at_widths w h = rw (field_of w 8 23, ← not_not (leb (2 ^ 31) w), ← sign_bit w h) (fields_agree (eqb (w / 2 ^ 31 % 2) 0) (field 8 23 w) (fraction 23 w))
+
+pub agrees : (x n w : ℕ) → x ≡ 8 → n ≡ 23 → w < 2 ^ 32 → Same (interchange x n w) (of_bits binary32 w)
+agrees x n w eight wide h = rw (eight, wide) (at_widths w h)

@@ -1,5 +1,5 @@
--- The decoding of binary32 beside the toolchain's own definition of IEEE 754, and that of bfloat16 beside binary32's.
-use Rattle.std.specs.Prelude.{◌≡◌, ◌*◌, ◌^◌, not, pos, ◌-ℤ◌, neg_ℤ, Some, None, Option, Float}
+-- The decoding of binary32 beside the toolchain's own definition of IEEE 754, and that of each layout beside wider ones.
+use Rattle.std.specs.Prelude.{◌≡◌, ℕ, ◌*◌, ◌^◌, not, pos, ◌-ℤ◌, neg_ℤ, Some, None, Option, Float}
 use Rattle.std.specs.Int.Signed.{non_neg}
 use Rattle.std.specs.Float.{nan, inf, fin}
 use Rattle.std.specs.Float.Ieee.Exact.{HasValue}
@@ -16,9 +16,9 @@ abbrev pub Same : Option Decoded → Float → Type 0
 Same None x = NotFinite x
 Same (Some d) x = HasValue x (not (non_neg d.0)) (units_of (neg_ℤ (pos 149)) d) (2 ^ 149)
 
--- the same number written with 16 places more, or neither finite: the significand is 2^16 times as large, and the exponent 16 less
-abbrev pub Widened : Option Decoded → Option Decoded → Type 0
-Widened None None = Unit {0}
-Widened None (Some e) = ⊥
-Widened (Some d) None = ⊥
-Widened (Some d) (Some e) = (e.0 ≡ d.0) × (e.1 ≡ d.1 * 2 ^ 16) × (e.2 ≡ d.2 -ℤ pos 16)
+-- the same number written with k places more, or neither finite: the significand is 2^k times as large, and the exponent k less
+abbrev pub Widened : ℕ → Option Decoded → Option Decoded → Type 0
+Widened k None None = Unit {0}
+Widened k None (Some e) = ⊥
+Widened k (Some d) None = ⊥
+Widened k (Some d) (Some e) = (e.0 ≡ d.0) × (e.1 ≡ d.1 * 2 ^ k) × (e.2 ≡ d.2 -ℤ pos k)

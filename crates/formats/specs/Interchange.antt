@@ -29,3 +29,7 @@ interchange x n w = cond (field x n w == 2 ^ x - 1) None (Some (number x n (sign
 -- the format of these widths
 abbrev pub coding : ℕ → ℕ → Coding ℕ
 coding x n = record { precision = n + 1; least = exponent x n 1; greatest = exponent x n (2 ^ x - 2); decode = interchange x n }
+
+-- a format whose words are read as numbers
+abbrev pub written : {W : Type 0} → (W → ℕ) → Coding ℕ → Coding W
+written number_of f = record { precision = f.precision; least = f.least; greatest = f.greatest; decode = λ w. f.decode (number_of w) }

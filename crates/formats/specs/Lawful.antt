@@ -1,13 +1,13 @@
 -- The formats keep the laws of a format: every layout of 4 to 8 exponent bits and 1 to 23 fraction bits, and fixed8 at every
 -- power. Nothing here has to be believed: these are proofs, which the formats name.
-use Rattle.std.specs.Prelude.{◌≡◌, ℕ, ◌+◌, ◌-◌, ◌*◌, ◌/◌, ◌^◌, ◌<◌, ◌≤◌, Bool, true, false, cond, ℤ, pos, negsuc, neg_ℤ, ◌≤ℤ◌, IfSome, None, ◌==◌, nat_lt, unsigned_abs, refl}
+use Rattle.std.specs.Prelude.{◌≡◌, ℕ, ◌+◌, ◌-◌, ◌*◌, ◌/◌, ◌^◌, ◌<◌, ◌≤◌, Bool, true, false, cond, ℤ, pos, negsuc, neg_ℤ, ◌≤ℤ◌, IfSome, Some, None, Option, ◌==◌, nat_lt, unsigned_abs, refl}
 use Rattle.std.proofs.Common.{arith, pow_mono, pow_pos, pow-add}
 use Rattle.std.proofs.lemmas.Nat.{mod_below}
 use Rattle.std.proofs.lemmas.Int.{ints}
 use Rattle.std.proofs.lemmas.Bool.{cond_both, eqb-false, ltb-true, ltb-false}
-use Rattle.formats.specs.Coding.{Shaped, Lawful}
+use Rattle.formats.specs.Coding.{Decoded, Coding, Shaped, Lawful}
 use Rattle.formats.specs.Fixed.{fixed}
-use Rattle.formats.specs.Interchange.{fraction, field, sign, number, coding}
+use Rattle.formats.specs.Interchange.{fraction, field, sign, number, coding, written}
 
 unit_sign : (b : Bool) → unsigned_abs (cond b (pos 1) (negsuc 0)) ≡ 1
 unit_sign true = refl
@@ -43,6 +43,20 @@ layout_lawful x n wide narrow some few =
           (λ e. let other = eqb-false (field x n w) (2 ^ x - 1) e in
           number_shaped x n (sign x n w) (field x n w) (fraction n w) (unit_sign _) (mod_below w (2 ^ n) (pow_pos n)) (omega arith) (omega (arith, mod_below (w / 2 ^ n) (2 ^ x) (pow_pos x))));
     }
+
+pub written_lawful : {W : Type 0} (number_of : W → ℕ) (f : Coding ℕ) → Lawful f → Lawful (written number_of f)
+written_lawful number_of f law = record {
+  some_bit = law.some_bit;
+  few_bits = law.few_bits;
+  low = law.low;
+  ordered = law.ordered;
+  high = law.high;
+  shaped = λ w. alike (f.decode (number_of w)) (law.shaped (number_of w));
+}
+  where
+    alike : (o : Option Decoded) → IfSome o (Shaped f) → IfSome o (Shaped (written number_of f))
+    alike None none = tt
+    alike (Some d) shape = record { sign = shape.sign; significand = shape.significand; from_least = shape.from_least; to_greatest = shape.to_greatest }
 
 pub fixed_lawful : (q : ℤ) → neg_ℤ (pos 64) ≤ℤ q → q ≤ℤ pos 64 → Lawful (fixed q)
 fixed_lawful q from to = record {

@@ -23,7 +23,7 @@ impl Fixed8 {
     pub fn new(power: i32) -> Result<Fixed8, Refusal>
         ensures { Made (power_check power) (λ f. f.power ≡ power) result }
     {
-        if power < -64 || power > 64 {
+        if !(-64..=64).contains(&power) {
             return Err(Refusal::PowerRange);
         }
         Ok(Fixed8 { power })

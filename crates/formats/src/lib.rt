@@ -6,10 +6,9 @@ ghost use Rattle.formats.specs.Coding.{Coding, Lawful};
 
 mod fixed;
 mod ieee;
-mod layout;
 
 pub use fixed::Fixed8;
-pub use ieee::{Bfloat16, Binary16, Binary32, words_count_up};
+pub use ieee::{Bfloat16, Binary16, Binary32, Interchange, words_count_up};
 
 pub trait Format {
     type Word: Copy;
