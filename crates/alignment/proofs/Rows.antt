@@ -1,7 +1,8 @@
 -- A tile cut row by row.
-use Rattle.std.proofs.Common.{◌≡◌, ℕ, ◌+◌, ◌^◌, ◌<◌, Bool, true, false, ◌≢◌, List, [], ◌∷◌, ◌++◌, map, length, get_or, take, drop, set, ℤ, pos, neg_ℤ, nat_abs, ◌≤ℤ◌, Some, None, Option, sym, refl, ap, ◌∙◌, le_refl, arith, pow_mono, below_more}
+use Rattle.std.proofs.Common.{◌≡◌, ℕ, ◌+◌, ◌^◌, ◌<◌, ◌≤◌, Bool, true, false, List, [], ◌∷◌, ◌++◌, map, length, get_or, take, drop, All, ℤ, pos, neg_ℤ, nat_abs, ◌≤ℤ◌, Some, None, Option, sym, refl, ap, ◌∙◌, arith, pow_mono}
 use lib.Signed.{lt_z}
-use Rattle.std.proofs.lemmas.List.{append_assoc, drop_more, get_or-map, get_or-set_same, get_or-set_other, length-map, length-take-le, map_more, set_at, take_all}
+use Rattle.std.proofs.lemmas.List.{get_or-map, length-map, map_more, take_all}
+use Rattle.std.proofs.lemmas.List.Elements.{All-push}
 use Rattle.std.proofs.lemmas.Option.{MatchOption-at_some}
 use Rattle.std.proofs.lemmas.Int.{ints}
 use Rattle.refusals.specs.declared.Refusal.{Refusal}
@@ -9,9 +10,10 @@ use Rattle.refusals.specs.declared.Refusal.TheVariants.{AboveShared}
 use Rattle.refusals.specs.Refusing.{refuse, first}
 use Rattle.refusals.proofs.Refusing.{none_some}
 use Rattle.formats.specs.Coding.{Decoded, Coding, Shaped, Lawful}
-use Rattle.alignment.specs.Cutting.{word_check, words_check, Small}
+use Rattle.alignment.specs.Cutting.{step_size, word_check, words_check, aligned, Small}
+use Rattle.alignment.specs.declared.checked.Step.{Step}
 use Rattle.alignment.specs.declared.cutting.Aligned.{Aligned}
-use Rattle.alignment.proofs.Surveying.{tile_at}
+use Rattle.alignment.proofs.Surveying.{tile_at, tile_all}
 
 -- ---- the checks
 module _ {W : Type 0} (f : W → Option Decoded) (ws : List W) (i : ℕ) (w : W) (h : i < length ws) (at : w ≡ get_or ws i w) (shared : ℤ) where
@@ -50,27 +52,24 @@ cuttable f law shared w d is under =
       under = under;
     }
 
--- ---- the buffer
--- one more element goes through f into a buffer
-pub filled_more : {X Y : Type 0} (f : X → Y) (xs : List X) (before after : List Y) (i : ℕ) (x : X) → i < length xs → i < length before → x ≡ get_or xs i x
-    → after ≡ map f (take i xs) ++ drop i before → set after i (f x) ≡ map f (take (i + 1) xs) ++ drop (i + 1) before
-filled_more f xs before after i x short room read inv =
-    let long : length (map f (take i xs)) ≡ i = length-map (take i xs) f ∙ length-take-le i xs (omega arith) in
-    ap (λ zs. set zs i (f x)) (inv ∙ ap (λ zs. map f (take i xs) ++ zs) (drop_more before i (f x) room))
-    ∙ set_at (map f (take i xs)) _ _ (f x) i long
-    ∙ sym (ap (λ zs. zs ++ drop (i + 1) before) (map_more f xs i x short ∙ ap (λ z. map f (take i xs) ++ (f z ∷ [])) (sym read)) ∙ append_assoc (map f (take i xs)) (f x ∷ []) (drop (i + 1) before))
+-- ---- the rows up to i are cut
+-- the words that are left decide, and those before them are cut, to small numbers
+pub record CutTo {W : Type 0} (step : Step) (f : W → Option Decoded) (ws : List W) (i : ℕ) (cuts : List Aligned) : Type 0 where
+  pub left : words_check step.shared.exponent 0 (map f ws) ≡ words_check step.shared.exponent i (drop i (map f ws))
+  pub cut : cuts ≡ map (aligned (step_size step)) (take i (map f ws))
+  pub small : All Small cuts
 
--- all of them have gone
-pub filled_all : {X Y : Type 0} (f : X → Y) (xs : List X) (before after : List Y) (i : ℕ) → i ≡ length xs → after ≡ map f (take i xs) ++ drop i before → after ≡ map f xs ++ drop i before
-filled_all f xs before after i end inv = inv ∙ rw (end, take_all (length xs) xs (le_refl (length xs))) refl
+module _ {W : Type 0} (step : Step) (f : W → Option Decoded) (ws : List W) (i : ℕ) (cuts : List Aligned) (so_far : CutTo step f ws i cuts) where
+  pub cut_more : (w : W) (a : Aligned) → i < length ws → w ≡ get_or ws i w → word_check step.shared.exponent i (f w) ≡ None → a ≡ aligned (step_size step) (f w) → Small a
+      → CutTo step f ws (i + 1) (cuts ++ a ∷ [])
+  cut_more w a here read passed is tiny = record {
+    left = so_far.left ∙ row_passed f ws i w here read step.shared.exponent passed;
+    cut =
+        ap (λ xs. xs ++ a ∷ []) so_far.cut
+        ∙ ap (λ x. map (aligned (step_size step)) (take i (map f ws)) ++ x ∷ []) (is ∙ ap (aligned (step_size step)) (ap f read ∙ sym (get_or-map f ws i w (f w) here)))
+        ∙ sym (map_more (aligned (step_size step)) (map f ws) i (f w) (rw length-map here));
+    small = All-push Small cuts a so_far.small tiny;
+  }
 
--- a word is read as its place in the tile says
-pub read_tile : {W X : Type 0} (f : W → X) (ws : List W) (i : ℕ) (w : W) → i < length ws → w ≡ get_or ws i w → f w ≡ get_or (map f ws) i (f w)
-read_tile f ws i w h read = ap f read ∙ sym (get_or-map f ws i w (f w) h)
-
--- one more small number is put into a buffer
-pub small_more : (buffer : List Aligned) (i : ℕ) (a : Aligned) → i < length buffer → nat_abs a.number < 2 ^ 36 → Small i buffer → Small (i + 1) (set buffer i a)
-small_more buffer i a room small rest =
-    below_more _ _
-    (λ k h. let other : k ≢ i = omega arith in rw get_or-set_other (rest k h))
-    (rw get_or-set_same small)
+  pub cut_all : length ws ≤ i → (words_check step.shared.exponent 0 (map f ws) ≡ None) × (cuts ≡ map (aligned (step_size step)) (map f ws))
+  cut_all end = (so_far.left ∙ ap (words_check step.shared.exponent i) (tile_all f ws i end), so_far.cut ∙ ap (map (aligned (step_size step))) (take_all i (map f ws) (rw length-map end)))

@@ -1,5 +1,5 @@
 -- A tile cut to a step: what refuses it, and the aligned numbers.
-use Rattle.std.specs.Prelude.{ℕ, ◌+◌, ◌^◌, ◌<◌, false, List, [], ◌∷◌, ◌++◌, map, length, drop, ℤ, pos, Some, None, Option, int_lt, slice_index_or, unsigned_abs}
+use Rattle.std.specs.Prelude.{ℕ, ◌+◌, ◌^◌, ◌<◌, false, [], ◌∷◌, ℤ, pos, Some, None, Option, int_lt, unsigned_abs}
 use Rattle.refusals.specs.declared.Refusal.{Refusal}
 use Rattle.refusals.specs.declared.Refusal.TheVariants.{NotFinite, AboveShared}
 use Rattle.refusals.specs.Refusing.{refuse, first}
@@ -36,10 +36,6 @@ abbrev pub aligned : ℕ → Option Decoded → Aligned
 aligned step None = nothing
 aligned step (Some d) = record { number = cut step (value d); lost = lost step (value d) }
 
--- a buffer whose front is written over with a tile's aligned numbers
-abbrev pub written_over : ℕ → Tile → List Aligned → List Aligned
-written_over step ts buffer = map (aligned step) ts ++ drop (length ts) buffer
-
--- the first n numbers of a buffer are below 2^36 in magnitude
-abbrev pub Small : ℕ → List Aligned → Type 0
-Small n buffer = (k : ℕ) → k < n → unsigned_abs (slice_index_or buffer k nothing).number < 2 ^ 36
+-- a number below 2^36 in magnitude
+abbrev pub Small : Aligned → Type 0
+Small a = unsigned_abs a.number < 2 ^ 36

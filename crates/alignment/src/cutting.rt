@@ -1,42 +1,39 @@
 // Values cut to whole numbers of steps.
-ghost use Rattle.std.specs.Prelude.{◌≡◌, ◌^◌, ◌<◌, length, ℤ, pos, neg_ℤ, ◌≤ℤ◌, Some, None, unsigned_abs};
-ghost use Rattle.refusals.specs.Refusing.{answer, verdict, unless, Made};
+ghost use Rattle.std.specs.Prelude.{◌≡◌, ◌^◌, ◌<◌, All, map, ℤ, pos, neg_ℤ, ◌≤ℤ◌, Some, IfOk, unsigned_abs};
+ghost use Rattle.refusals.specs.Refusing.{Made};
 ghost use Rattle.alignment.specs.Tile.{tile_of};
-ghost use Rattle.alignment.specs.Cutting.{step_size, word_check, cut_check, aligned, written_over, Small};
+ghost use Rattle.alignment.specs.Cutting.{step_size, word_check, cut_check, aligned, Small};
 
 use crate::TILE_WORDS;
 use crate::checked::{SharedExponent, Step};
+use arrayvec::ArrayVec;
 use formats::Format;
 use refusals::Refusal;
 
 // A whole number of steps, and whether cutting lost a part of a step.
-#[derive(Clone, Copy)]
+#[derive(Clone, Copy, Debug, PartialEq, Eq, Default)]
 pub struct Aligned {
     pub number: i64,
     pub lost: bool,
 }
 
-// Cuts a tile into the front of a buffer, whose rest stays as it is.
+// The words of a tile in whole steps, each in its row.
 pub fn cut_tile<F: Format>(
     format: &F,
     words: &[F::Word],
     step: Step,
-    buffer: &mut [Aligned; TILE_WORDS],
-) -> Result<(), Refusal>
-    ensures answers { result ≡ verdict (cut_check step.shared.exponent (tile_of (F.Format.meaning format.now) words.now)) }
-    ensures writes { buffer.new ≡ unless (cut_check step.shared.exponent (tile_of (F.Format.meaning format.now) words.now)) buffer.old (written_over (step_size step) (tile_of (F.Format.meaning format.now) words.now) buffer.old) }
-    ensures small { cut_check step.shared.exponent (tile_of (F.Format.meaning format.now) words.now) ≡ None → Small (length words.now) buffer.new }
+) -> Result<ArrayVec<Aligned, TILE_WORDS>, Refusal>
+    ensures made { Made (cut_check step.shared.exponent (tile_of (F.Format.meaning format.now) words.now)) (λ v. v.items ≡ map (aligned (step_size step)) (tile_of (F.Format.meaning format.now) words.now)) result }
+    ensures small { IfOk result (λ v. All Small v.items) }
 {
     if words.len() > TILE_WORDS {
         return Err(Refusal::TooManyWords);
     }
-    // Cut aside, so that a refusal leaves the buffer as it was.
-    let mut numbers = *buffer;
+    let mut cuts = ArrayVec::new();
     for (row, word) in words.iter().enumerate() {
-        numbers[row] = cut_row(format, *word, row, step)?;
+        cuts.push(cut_row(format, *word, row, step)?);
     }
-    *buffer = numbers;
-    Ok(())
+    Ok(cuts)
 }
 
 // The word of a row, decoded: it has to be finite, and its exponent not above the shared one.
@@ -59,8 +56,8 @@ pub fn lined_up<F: Format>(
 
 // The word of a row, cut.
 fn cut_row<F: Format>(format: &F, word: F::Word, row: usize, step: Step) -> Result<Aligned, Refusal>
-    ensures answers { result ≡ answer (word_check step.shared.exponent row ((F.Format.meaning format.now).decode word)) (aligned (step_size step) ((F.Format.meaning format.now).decode word)) }
-    ensures small { word_check step.shared.exponent row ((F.Format.meaning format.now).decode word) ≡ None → unsigned_abs (aligned (step_size step) ((F.Format.meaning format.now).decode word)).number < 2 ^ 36 }
+    ensures made { Made (word_check step.shared.exponent row ((F.Format.meaning format.now).decode word)) (λ a. a ≡ aligned (step_size step) ((F.Format.meaning format.now).decode word)) result }
+    ensures small { IfOk result Small }
 {
     let decoded = lined_up(format, word, row, step.shared)?;
     Ok(cut_value(decoded, step))
@@ -73,7 +70,7 @@ fn cut_value(decoded: (i8, u32, i32), step: Step) -> Aligned
     requires low { neg_ℤ (pos 400) ≤ℤ decoded.2 }
     requires under { decoded.2 ≤ℤ step.shared.exponent }
     ensures value { result ≡ aligned (step_size step) (Some decoded) }
-    ensures small { unsigned_abs result.number < 2 ^ 36 }
+    ensures small { Small result }
 {
     let (sign, significand, exponent) = decoded;
     let scaled = u64::from(significand) << step.extra.bits;

@@ -1,16 +1,16 @@
-use Rattle.std.proofs.Common.{Err, sym, ap, ◌∙◌}
+use Rattle.std.proofs.Common.{sym, ap, ◌∙◌}
 use Rattle.std.proofs.lemmas.Result.{err_from_is_err_and}
-use Rattle.refusals.proofs.Refusing.{none_some, refused, accepted, was_made, was_refused}
+use Rattle.refusals.proofs.Refusing.{made, unmade, was_made, was_refused}
 use Rattle.alignment.specs.Cutting.{step_size, word_check, aligned}
 use Rattle.alignment.proofs.Rows.{cuttable, not_above}
 use Rattle.alignment.proofs.cutting.cut_row.Goals as goal
 
-pub returns-in_err-decoded : goal.returns-in_err-decoded
-returns-in_err-decoded g c =
+pub returns-in_err-decoded-clause-made : goal.returns-in_err-decoded-clause-made
+returns-in_err-decoded-clause-made g c =
     let word = (g.F.Format.meaning c.args.format.now).decode c.args.word in
     let p = err_from_is_err_and c.from_residual.result c.from_residual.ensures.1 in
     let no = was_refused (word_check c.args.step.shared.exponent c.args.row word) _ _ c.in_err-decoded.ensures in
-    record { answers = p.1 ∙ ap Err p.2 ∙ refused _ no; small = λ none. absurd (none_some none no) }
+    rw (p.1, p.2) (unmade _ _ _ no)
 
 pub cut_value-requires : goal.cut_value-requires
 cut_value-requires g c =
@@ -21,9 +21,8 @@ cut_value-requires g c =
     let can = cuttable f (g.met.F.Format.lawful c.args.format.now) shared c.args.word d ok.1 (not_above shared c.args.row d ok.1 ok.0) in
     record { sign = can.sign; significand = can.significand; low = can.low; under = can.under }
 
-pub returns : goal.returns
-returns g c =
+pub returns-clause-made : goal.returns-clause-made
+returns-clause-made g c =
     let word = (g.F.Format.meaning c.args.format.now).decode c.args.word in
     let ok = was_made (word_check c.args.step.shared.exponent c.args.row word) _ c.in_ok-decoded.decoded c.in_ok-decoded.ensures in
-    let is = c.cut_value.ensures.value ∙ sym (ap (aligned (step_size c.args.step)) ok.1) in
-    record { answers = accepted ok.0 is; small = λ _. rw (← is) c.cut_value.ensures.small }
+    made _ _ _ ok.0 (c.cut_value.ensures.value ∙ sym (ap (aligned (step_size c.args.step)) ok.1))
