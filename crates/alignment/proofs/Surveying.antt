@@ -1,11 +1,11 @@
 -- A tile's words one by one: those that are left decide.
-use Rattle.std.proofs.Common.{◌≡◌, ℕ, suc, ◌+◌, ◌<◌, ◌≤◌, ◌⊎◌, List, [], ◌∷◌, map, length, get_or, drop, ℤ, pos, neg_ℤ, ◌≤ℤ◌, IfSome, Some, None, Option, sym, refl, ap, ◌∙◌, inl, inr, ⊎_elim, arith}
+use Rattle.std.proofs.Common.{◌≡◌, ℕ, ◌+◌, ◌<◌, ◌≤◌, ◌⊎◌, List, [], ◌∷◌, map, length, get_or, drop, Contains, ℤ, pos, neg_ℤ, ◌≤ℤ◌, IfSome, Some, None, Option, sym, refl, ap, ◌∙◌, inl, inr, ⊎_elim, arith}
 use lib.Signed.{lt_z}
 use Rattle.std.specs.Int.{int_max}
-use Rattle.std.specs.List.{ContainsAt}
 use Rattle.std.proofs.lemmas.List.{drop_more, drop-map, drop_all, length-map}
+use Rattle.std.proofs.lemmas.List.Elements.{Contains-append_right}
 use Rattle.std.proofs.lemmas.Int.{ints, clamps}
-use Rattle.std.proofs.lemmas.Bool.{lt-ltb, le-ltb, cond_both}
+use Rattle.std.proofs.lemmas.Bool.{le-ltb, cond_both}
 use Rattle.refusals.specs.declared.Refusal.{Refusal}
 use Rattle.refusals.specs.declared.Refusal.TheVariants.{NotFinite, TooManyWords}
 use Rattle.refusals.specs.Refusing.{refuse, first}
@@ -13,12 +13,8 @@ use Rattle.formats.specs.Coding.{Decoded, Coding, Shaped, Lawful}
 use Rattle.alignment.specs.Tile.{Tile, length_check, not_finite, largest, Largest}
 
 -- ---- the length
-module _ {W : Type 0} (f : W → Option Decoded) (ws : List W) where
-  pub too_many : (later : Option Refusal) → 128 < length ws → first (length_check (map f ws)) later ≡ Some TooManyWords
-  too_many later h = ap (λ b. first (refuse b TooManyWords) later) (lt-ltb 128 (length (map f ws)) (rw length-map h))
-
-  pub few_enough : (later : Option Refusal) → length ws ≤ 128 → first (length_check (map f ws)) later ≡ later
-  few_enough later h = ap (λ b. first (refuse b TooManyWords) later) (le-ltb 128 (length (map f ws)) (rw length-map h))
+pub few_enough : {W : Type 0} (f : W → Option Decoded) (ws : List W) (later : Option Refusal) → length ws ≤ 128 → first (length_check (map f ws)) later ≡ later
+few_enough f ws later h = ap (λ b. first (refuse b TooManyWords) later) (le-ltb 128 (length (map f ws)) (rw length-map h))
 
 -- ---- word by word
 module _ {W : Type 0} (f : W → Option Decoded) (ws : List W) (i : ℕ) where
@@ -41,20 +37,8 @@ module _ {W : Type 0} (f : W → Option Decoded) (ws : List W) (i : ℕ) (w : W)
   largest_more m d e = ap (largest m) (tile_at f ws i w h at) ∙ ap (λ o. largest m (o ∷ drop (i + 1) (map f ws))) e
 
 -- ---- what the largest exponent is
-max_left : (m e : ℤ) → m ≤ℤ int_max m e
-max_left m e = omega (arith, ints, clamps)
-
-max_right : (m e : ℤ) → e ≤ℤ int_max m e
-max_right m e = omega (arith, ints, clamps)
-
 max_either : (m e : ℤ) → (int_max m e ≡ m) ⊎ (int_max m e ≡ e)
 max_either m e = cond_both (lt_z e m) m e (λ z. (z ≡ m) ⊎ (z ≡ e)) (λ _. inl refl) (λ _. inr refl)
-
-trans : (a b c : ℤ) → a ≤ℤ b → b ≤ℤ c → a ≤ℤ c
-trans a b c p q = omega (arith, ints)
-
-has_later : {X : Type 0} (x y : X) (xs : List X) → ContainsAt xs x → ContainsAt (y ∷ xs) x
-has_later x y xs h = (suc h.0, omega (arith, h.1), h.2)
 
 pub is_largest : (m : ℤ) (ts : Tile) → Largest m ts (largest m ts)
 is_largest m [] = record { from = omega (arith, ints); above = tt; reached = inl refl }
@@ -63,19 +47,19 @@ is_largest m (None ∷ ts) =
     record {
       from = rest.from;
       above = (tt, rest.above);
-      reached = ⊎_elim inl (λ h. inr (h.0, (has_later (Some h.0) None ts h.1.0, h.1.1))) rest.reached;
+      reached = ⊎_elim inl (λ h. inr (h.0, (Contains-append_right (None ∷ []) ts (Some h.0) h.1.0, h.1.1))) rest.reached;
     }
 is_largest m (Some d ∷ ts) =
     let top = largest (int_max m d.2) ts in
     let rest = is_largest (int_max m d.2) ts in
-    let here : top ≡ d.2 → (top ≡ m) ⊎ ((e : Decoded) × (ContainsAt (Some d ∷ ts) (Some e) × (e.2 ≡ top))) = λ is. inr (d, ((0, omega arith, λ _. refl), sym is)) in
+    let here : top ≡ d.2 → (top ≡ m) ⊎ ((e : Decoded) × (Contains (Some d ∷ ts) (Some e) × (e.2 ≡ top))) = λ is. inr (d, ((0, omega arith, refl), sym is)) in
     record {
-      from = trans m (int_max m d.2) top (max_left m d.2) rest.from;
-      above = (trans d.2 (int_max m d.2) top (max_right m d.2) rest.from, rest.above);
+      from = omega (arith, ints, clamps, rest.from);
+      above = (omega (arith, ints, clamps, rest.from), rest.above);
       reached =
           ⊎_elim
           (λ is. ⊎_elim (λ left. inl (is ∙ left)) (λ right. here (is ∙ right)) (max_either m d.2))
-          (λ h. inr (h.0, (has_later (Some h.0) (Some d) ts h.1.0, h.1.1)))
+          (λ h. inr (h.0, (Contains-append_right (Some d ∷ []) ts (Some h.0) h.1.0, h.1.1)))
           rest.reached;
     }
 
@@ -92,4 +76,4 @@ largest_ranged f law (w ∷ ws) m h = by_word (f.decode w) (law.shaped w) (large
   where
     by_word : (o : Option Decoded) → IfSome o (Shaped f) → ((k : ℤ) → Ranged k → Ranged (largest k (map f.decode ws))) → Ranged (largest m (o ∷ map f.decode ws))
     by_word None c rest = rest m h
-    by_word (Some d) c rest = rest (int_max m d.2) (higher m d.2 h (trans _ f.least d.2 law.low c.from_least, trans d.2 f.greatest _ c.to_greatest law.high))
+    by_word (Some d) c rest = rest (int_max m d.2) (higher m d.2 h (omega (arith, ints, law.low, c.from_least), omega (arith, ints, c.to_greatest, law.high)))

@@ -1,7 +1,7 @@
 -- A tile of words, as they decode: what refuses its survey, and its largest exponent.
-use Rattle.std.specs.Prelude.{◌≡◌, ℕ, ◌+◌, ◌⊎◌, List, [], ◌∷◌, map, length, ℤ, ◌≤ℤ◌, IfSome, Some, None, Option, nat_lt}
+use Rattle.std.specs.Prelude.{◌≡◌, ℕ, ◌+◌, ◌⊎◌, List, [], ◌∷◌, map, length, Contains, ℤ, ◌≤ℤ◌, IfSome, Some, None, Option, nat_lt}
 use Rattle.std.specs.Int.{int_max}
-use Rattle.std.specs.List.{ContainsAt, AllByRecursion}
+use Rattle.std.specs.List.{AllByRecursion}
 use Rattle.refusals.specs.declared.Refusal.{Refusal}
 use Rattle.refusals.specs.declared.Refusal.TheVariants.{ExtraBits, TooManyWords, NotFinite}
 use Rattle.refusals.specs.Refusing.{refuse, first}
@@ -43,4 +43,4 @@ largest m (Some d ∷ ts) = largest (int_max m d.2) ts
 pub record Largest (m : ℤ) (ts : Tile) (top : ℤ) : Type 0 where
   pub from : m ≤ℤ top
   pub above : AllByRecursion (λ t. IfSome t (λ d. d.2 ≤ℤ top)) ts
-  pub reached : (top ≡ m) ⊎ ((d : Decoded) × (ContainsAt ts (Some d) × (d.2 ≡ top)))
+  pub reached : (top ≡ m) ⊎ ((d : Decoded) × (Contains ts (Some d) × (d.2 ≡ top)))

@@ -1,4 +1,3 @@
-use Rattle.std.proofs.Common.{map}
 use Rattle.alignment.proofs.Rows.{CutTo}
 use Rattle.alignment.proofs.cutting.cut_tile.Given as goal
 

@@ -1,8 +1,8 @@
-use Rattle.std.proofs.Common.{◌≡◌, ◌*◌, ◌/◌, ◌%◌, ◌^◌, ◌<◌, min, not, eqb, pos, ◌-ℤ◌, ◌*ℤ◌, nat_abs, ap, ◌∙◌, mod-eq_of_lt, div-le_self, arith, w64, to_z, of_z}
+use Rattle.std.proofs.Common.{◌≡◌, ◌*◌, ◌/◌, ◌%◌, ◌^◌, ◌<◌, min, not, eqb, pos, ◌-ℤ◌, ◌*ℤ◌, nat_abs, refl, ap, ◌∙◌, mod-eq_of_lt, div-le_self, arith, rules, w64, to_z, of_z}
 use Rattle.std.proofs.lemmas.Nat.{one_shl}
 use Rattle.std.proofs.lemmas.Int.{ints, to_z-of_z, to_z_pos}
 use Rattle.integers.proofs.Laws.{abs_product}
-use Rattle.alignment.proofs.Values.{capped, fits_small, scaled_small, cut_is, lost_is, alike}
+use Rattle.alignment.proofs.Values.{capped, fits_small, scaled_small, cut_is, lost_is}
 use Rattle.alignment.proofs.cutting.cut_value.Goals as goal
 
 -- the significand, scaled and not yet shifted
@@ -27,7 +27,7 @@ small : (c : goal.After-from-2) → (c.from.result * 2 ^ c.args.step.extra.bits)
 small c = omega (arith, magnitude c, (scaled c).1, div-le_self (c.args.decoded.1 * 2 ^ c.args.step.extra.bits) (2 ^ nat_abs (c.args.step.shared.exponent -ℤ c.args.decoded.2)))
 
 pub overflow_cast-result-2 : goal.overflow_cast-result-2
-overflow_cast-result-2 c = record { sfits = omega (arith, small c) }
+overflow_cast-result-2 c = let s = small c in search rules
 
 -- what the shift leaves out
 rest : (c : goal.After-from-2) → (c.from.result * 2 ^ c.args.step.extra.bits) % 2 ^ 64 % ((1 * 2 ^ c.min-places.result) % 2 ^ 64) ≡ (c.args.decoded.1 * 2 ^ c.args.step.extra.bits) % 2 ^ nat_abs (c.args.step.shared.exponent -ℤ c.args.decoded.2)
@@ -61,6 +61,6 @@ returns c =
     let number = back ∙ product c ∙ cut_is d c.args.step.shared.exponent c.args.step.extra.bits c.requires.sign c.requires.low c.requires.under c.args.step.extra.few in
     let lost = ap (λ z. not (eqb z 0)) (rest c) ∙ lost_is d c.args.step.shared.exponent c.args.step.extra.bits c.requires.sign c.requires.low c.requires.under c.args.step.extra.few in
     record {
-      value = alike number lost;
+      value = rw (number, lost) refl;
       small = rw back (size c);
     }
