@@ -1,4 +1,4 @@
-use Rattle.std.proofs.Common.{◌∙◌}
+use Rattle.std.proofs.Common.{◌∙◌, arith}
 use Rattle.std.proofs.lemmas.Result.{err_from_is_err_and}
 use Rattle.refusals.proofs.Refusing.{unmade, was_made, was_refused}
 use Rattle.alignment.specs.Cutting.{word_check}
@@ -15,7 +15,7 @@ returns-in_err-cut_row-clause-made g c =
     let w = c.index-words-row.result in
     let p = err_from_is_err_and c.from_residual.result c.from_residual.ensures.1 in
     let faulty = was_refused (word_check shared i (f w)) _ _ c.in_err-cut_row.ensures.made in
-    rw (p.1, p.2) (unmade _ _ _ (few_enough f ws _ c.if-words-gt-TILE_WORDS.false ∙ c.loop-row.invariant.left ∙ row_faulty f ws i w c.loop-row-test.true c.index-words-row.is shared faulty))
+    rw (p.1, p.2) (unmade _ _ _ (few_enough f ws _ (omega arith) ∙ c.loop-row.invariant.left ∙ row_faulty f ws i w c.loop-row-test.true c.index-words-row.is shared faulty))
 
 pub loop-row-preserved : goal.loop-row-preserved
 loop-row-preserved g c =

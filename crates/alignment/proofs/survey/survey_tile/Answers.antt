@@ -1,4 +1,4 @@
-use Rattle.std.proofs.Common.{map, sym, ◌∙◌, rules}
+use Rattle.std.proofs.Common.{map, sym, ◌∙◌, rules, arith}
 use Rattle.alignment.specs.Tile.{largest}
 use Rattle.refusals.proofs.Refusing.{refused}
 use Rattle.alignment.proofs.Surveying.{finite_more, finite_here, largest_more, few_enough}
@@ -6,7 +6,7 @@ use Rattle.alignment.proofs.survey.survey_tile.Goals as goal
 
 pub returns-in_default : goal.returns-in_default
 returns-in_default g c =
-    refused (largest c.args.shared (map (g.F.Format.meaning c.args.format.now).decode c.args.words.now)) (few_enough _ c.args.words.now _ c.if-words-gt-TILE_WORDS.false ∙ c.loop-row.invariant.0
+    refused (largest c.args.shared (map (g.F.Format.meaning c.args.format.now).decode c.args.words.now)) (few_enough _ c.args.words.now _ (omega arith) ∙ c.loop-row.invariant.0
     ∙ finite_here _ c.args.words.now c.loop-row.row c.index-words-row.result c.loop-row-test.true c.index-words-row.is (sym c.decode.ensures.value ∙ c.in_default.is))
 
 pub loop-row-preserved : goal.loop-row-preserved
