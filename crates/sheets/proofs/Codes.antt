@@ -50,12 +50,12 @@ by_code (Planes planes) places bytes others k same =
     let there = planes_stand others (plane_length places) k planes in
     omega (arith, ints)
 
-place_lt : {rows columns row column : ℕ} → row < rows → column < columns → row * columns + column < rows * columns
-place_lt {rows} {columns} {row} {column} r c = omega (arith, mul-add-lt row columns column rows r c)
+pub place_lt : (rows columns row column : ℕ) → row < rows → column < columns → row * columns + column < rows * columns
+place_lt rows columns row column r c = omega (arith, mul-add-lt row columns column rows r c)
 
 pub spare_bits_unread : SpareBitsUnread
 spare_bits_unread packing rows columns bytes others same = record {
   rows = refl;
   columns = refl;
-  weights = λ row column r c. by_code packing (rows * columns) bytes others (row * columns + column) (same (row * columns + column) (place_lt r c));
+  weights = λ row column r c. by_code packing (rows * columns) bytes others (row * columns + column) (same (row * columns + column) (place_lt rows columns row column r c));
 }

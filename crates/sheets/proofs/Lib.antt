@@ -1,2 +1,2 @@
-pub mod Planes
+pub mod Summing
 pub mod Codes

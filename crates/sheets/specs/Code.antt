@@ -1,5 +1,7 @@
 -- The numbers that packings are known by, and the bytes that they take.
-use Rattle.std.specs.Prelude.{ℕ, ◌+◌, ◌*◌, ◌/◌, cond, List, [], ◌∷◌, Some, None, Option, ◌==◌}
+use Rattle.std.specs.Prelude.{ℕ, ◌+◌, ◌*◌, ◌/◌, ◌≤◌, cond, List, [], ◌∷◌, Some, None, Ok, Err, Option, Result, ◌==◌}
+use Rattle.refusals.specs.declared.Refusal.{Refusal}
+use Rattle.refusals.specs.declared.Refusal.TheVariants.{UnknownCode}
 use Rattle.sheets.specs.declared.code.SheetCode.{SheetCode}
 use Rattle.sheets.specs.declared.code.SheetCode.TheVariants.{Byte, Nibble, Planes}
 
@@ -7,6 +9,11 @@ use Rattle.sheets.specs.declared.code.SheetCode.TheVariants.{Byte, Nibble, Plane
 abbrev pub coded : {C : Type 0} → (C → ℕ) → List C → ℕ → Option C
 coded number [] n = None
 coded number (c ∷ cs) n = cond (n == number c) (Some c) (coded number cs n)
+
+-- a number that stands for nothing is an unknown code
+abbrev pub known : {C : Type 0} → Option C → Result C Refusal
+known None = Err UnknownCode
+known (Some c) = Ok c
 
 -- the number of a packing
 abbrev pub sheet_number : SheetCode → ℕ
@@ -27,3 +34,9 @@ abbrev pub byte_length : SheetCode → ℕ → ℕ
 byte_length Byte places = places
 byte_length Nibble places = (places + 1) / 2
 byte_length (Planes planes) places = planes * plane_length places
+
+-- at most 8 planes, where there are planes
+abbrev pub FewPlanes : SheetCode → Type 0
+FewPlanes Byte = Unit {0}
+FewPlanes Nibble = Unit {0}
+FewPlanes (Planes planes) = planes ≤ 8

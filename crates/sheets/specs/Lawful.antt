@@ -4,25 +4,11 @@ use Rattle.std.proofs.Math.Nat.{pow-succ'}
 use Rattle.std.proofs.Common.{arith, pow_pos, pow_mono}
 use Rattle.std.proofs.lemmas.Int.{ints}
 use Rattle.std.proofs.lemmas.Bool.{cond_both, ltb-true, ltb-false}
-use Rattle.sheets.specs.declared.any.AnySheet.{AnySheet}
-use Rattle.sheets.specs.declared.any.AnySheet.TheVariants as any
-use Rattle.sheets.specs.declared.byte.ByteSheet.{ByteSheet}
 use Rattle.sheets.specs.declared.code.SheetCode.{SheetCode}
 use Rattle.sheets.specs.declared.code.SheetCode.TheVariants.{Byte, Nibble, Planes}
-use Rattle.sheets.specs.declared.extent.Extent.{Extent}
-use Rattle.sheets.specs.declared.nibble.NibbleSheet.{NibbleSheet}
-use Rattle.sheets.specs.declared.plane.PlaneSheet.{PlaneSheet}
-use Rattle.sheets.specs.Code.{plane_length}
-use Rattle.sheets.specs.Extent.{plane_count}
-use Rattle.sheets.specs.Meanings.{extent_page, byte_meaning, nibble_meaning, plane_meaning, any_meaning}
-use Rattle.sheets.specs.Packing.{signed, nibble_at, bit_at, plane_sum, weight_at}
+use Rattle.sheets.specs.Code.{FewPlanes, plane_length}
+use Rattle.sheets.specs.Packing.{signed, nibble_at, bit_at, plane_sum, weight_at, page}
 use Rattle.sheets.specs.Page.{Lawful}
-
--- at most 8 planes, where there are planes
-abbrev FewPlanes : SheetCode → Type 0
-FewPlanes Byte = Unit {0}
-FewPlanes Nibble = Unit {0}
-FewPlanes (Planes planes) = planes ≤ 8
 
 -- whatever the code is
 signed_small : (half code : ℕ) → half ≤ 128 → unsigned_abs (signed half code) ≤ 255
@@ -43,24 +29,10 @@ weight_small Byte few places bytes k = signed_small 128 (slice_index bytes k) (o
 weight_small Nibble few places bytes k = signed_small 8 (nibble_at bytes k) (omega arith)
 weight_small (Planes planes) few places bytes k = omega (arith, plane_sum_small bytes (plane_length places) k planes, pow_mono few)
 
-extent_lawful : (code : SheetCode) → FewPlanes code → (extent : Extent) (bytes : List ℕ) → Lawful (extent_page code extent bytes)
-extent_lawful code few extent bytes = record {
-  few_rows = omega arith;
-  some_column = omega arith;
-  few_columns = omega arith;
+pub page_lawful : (code : SheetCode) → FewPlanes code → {rows columns : ℕ} → rows ≤ 128 → 1 ≤ columns → columns ≤ 16 → (bytes : List ℕ) → Lawful (page code rows columns bytes)
+page_lawful code few few_rows some few_columns bytes = record {
+  few_rows = few_rows;
+  some_column = some;
+  few_columns = few_columns;
   small = λ row column. weight_small code few _ bytes _;
 }
-
-pub byte_lawful : (s : ByteSheet) → Lawful (byte_meaning s)
-byte_lawful s = extent_lawful Byte tt s.extent s.bytes.now
-
-pub nibble_lawful : (s : NibbleSheet) → Lawful (nibble_meaning s)
-nibble_lawful s = extent_lawful Nibble tt s.extent s.bytes.now
-
-pub plane_lawful : (s : PlaneSheet) → Lawful (plane_meaning s)
-plane_lawful s = extent_lawful (Planes (plane_count s.planes)) (omega arith) s.extent s.bytes.now
-
-pub any_lawful : (s : AnySheet) → Lawful (any_meaning s)
-any_lawful (any.Byte s) = byte_lawful s
-any_lawful (any.Nibble s) = nibble_lawful s
-any_lawful (any.Planes s) = plane_lawful s

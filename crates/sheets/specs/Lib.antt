@@ -1,8 +1,8 @@
 pub mod Page
 pub mod Code
-pub mod Extent
 pub mod Packing
 pub mod Making
+pub mod Any
 pub mod Meanings
 pub mod Lawful
 pub mod Laws

@@ -1,81 +1,51 @@
-// A sheet whose packing is known only when the program runs.
-ghost use Rattle.std.specs.Prelude.{◌≡◌, length};
+// A packing that is known only when the program runs.
 ghost use Rattle.refusals.specs.Refusing.{Made};
-ghost use Rattle.sheets.specs.Lawful.{any_lawful};
-ghost use Rattle.sheets.specs.Making.{making_check};
-ghost use Rattle.sheets.specs.Meanings.{any_meaning};
-ghost use Rattle.sheets.specs.Packing.{page};
+ghost use Rattle.std.specs.Prelude.{◌≡◌};
+ghost use Rattle.sheets.specs.Any.{any_code, any_few};
+ghost use Rattle.sheets.specs.Making.{planes_check};
 
-use crate::byte::ByteSheet;
 use crate::code::SheetCode;
-use crate::nibble::NibbleSheet;
-use crate::plane::PlaneSheet;
-use crate::{Sheet, Weights};
+use crate::packing::{Bytes, Nibbles, Packing};
+use crate::planes::BitPlanes;
 use refusals::Refusal;
 
 #[derive(Clone, Copy)]
-pub enum AnySheet<'a> {
-    Byte(ByteSheet<'a>),
-    Nibble(NibbleSheet<'a>),
-    Planes(PlaneSheet<'a>),
+pub enum AnyPacking {
+    Byte(Bytes),
+    Nibble(Nibbles),
+    Planes(BitPlanes),
 }
 
-impl<'a> AnySheet<'a> {
-    // The sheet of these bytes, packed as the code says.
-    pub fn new(
-        code: SheetCode,
-        rows: usize,
-        columns: usize,
-        bytes: &'a [u8],
-    ) -> Result<AnySheet<'a>, Refusal>
-        ensures { Made (making_check code rows columns (length bytes.now)) (λ s. any_meaning s ≡ page code rows columns bytes.now) result }
+impl AnyPacking {
+    pub(crate) fn new(code: SheetCode) -> Result<AnyPacking, Refusal>
+        ensures { Made (planes_check code) (λ p. any_code p ≡ code) result }
     {
         Ok(match code {
-            SheetCode::Byte => AnySheet::Byte(ByteSheet::new(rows, columns, bytes)?),
-            SheetCode::Nibble => AnySheet::Nibble(NibbleSheet::new(rows, columns, bytes)?),
-            SheetCode::Planes(planes) => {
-                AnySheet::Planes(PlaneSheet::new(rows, columns, usize::from(planes), bytes)?)
-            }
+            SheetCode::Byte => AnyPacking::Byte(Bytes),
+            SheetCode::Nibble => AnyPacking::Nibble(Nibbles),
+            SheetCode::Planes(planes) => AnyPacking::Planes(BitPlanes::new(usize::from(planes))?),
         })
     }
 }
 
-impl<'a> Weights for AnySheet<'a> {
-    ghost meaning = { any_meaning };
+impl Packing for AnyPacking {
+    ghost code = { any_code };
 
-    ghost lawful = { any_lawful };
-
-    fn rows(&self) -> usize {
+    fn code(self) -> SheetCode {
         match self {
-            AnySheet::Byte(sheet) => sheet.rows(),
-            AnySheet::Nibble(sheet) => sheet.rows(),
-            AnySheet::Planes(sheet) => sheet.rows(),
+            AnyPacking::Byte(packing) => packing.code(),
+            AnyPacking::Nibble(packing) => packing.code(),
+            AnyPacking::Planes(packing) => packing.code(),
         }
     }
 
-    fn columns(&self) -> usize {
+    fn weight(self, bytes: &[u8], places: usize, place: usize) -> i16 {
         match self {
-            AnySheet::Byte(sheet) => sheet.columns(),
-            AnySheet::Nibble(sheet) => sheet.columns(),
-            AnySheet::Planes(sheet) => sheet.columns(),
+            AnyPacking::Byte(packing) => packing.weight(bytes, places, place),
+            AnyPacking::Nibble(packing) => packing.weight(bytes, places, place),
+            AnyPacking::Planes(packing) => packing.weight(bytes, places, place),
         }
     }
 
-    fn weight(&self, row: usize, column: usize) -> Result<i16, Refusal> {
-        match self {
-            AnySheet::Byte(sheet) => sheet.weight(row, column),
-            AnySheet::Nibble(sheet) => sheet.weight(row, column),
-            AnySheet::Planes(sheet) => sheet.weight(row, column),
-        }
-    }
-}
-
-impl<'a> Sheet for AnySheet<'a> {
-    fn row(&self, row: usize, buffer: &mut [i16]) -> Result<(), Refusal> {
-        match self {
-            AnySheet::Byte(sheet) => sheet.row(row, buffer),
-            AnySheet::Nibble(sheet) => sheet.row(row, buffer),
-            AnySheet::Planes(sheet) => sheet.row(row, buffer),
-        }
-    }
+    ghost few = { any_few };
 }

@@ -9,26 +9,26 @@ use refusals::Refusal;
 
 mod any;
 mod bits;
-mod byte;
 mod code;
 mod extent;
 mod laws;
-mod nibble;
-mod plane;
+mod making;
+mod packed;
+mod packing;
+mod planes;
 
-pub use any::AnySheet;
-pub use byte::ByteSheet;
+pub use any::AnyPacking;
 pub use code::SheetCode;
+pub use extent::Extent;
 pub use laws::{codes_stand_for_weights, spare_bits_unread};
-pub use nibble::NibbleSheet;
-pub use plane::PlaneSheet;
+pub use making::{AnySheet, ByteSheet, NibbleSheet, PlaneSheet};
+pub use packed::Packed;
+pub use packing::{Bytes, Nibbles, Packing};
+pub use planes::BitPlanes;
 
 // Weights in rows and columns.
-pub trait Weights {
+pub trait Sheet {
     ghost meaning: { Self → Page };
-
-    // The bounds that each kind of sheet proves of its meaning.
-    ghost lawful: { (s : Self) → Lawful (meaning s) };
 
     fn rows(&self) -> usize
         ensures { result ≡ (meaning self.now).rows };
@@ -39,31 +39,26 @@ pub trait Weights {
     // The weight at a place, which is refused where the sheet has no such row or column.
     fn weight(&self, row: usize, column: usize) -> Result<i16, Refusal>
         ensures { result ≡ answer (place_check (meaning self.now) row column) ((meaning self.now).weight row column) };
-}
 
-// Weights that are given row by row too.
-pub trait Sheet: Weights {
     // Writes a row's weights into a buffer of as many. A buffer that is refused is left as it was.
     fn row(&self, row: usize, buffer: &mut [i16]) -> Result<(), Refusal>
-        ensures answers { result ≡ verdict (row_check (Self.Weights.meaning self.now) row (length buffer.old)) }
-        ensures writes { buffer.new ≡ unless (row_check (Self.Weights.meaning self.now) row (length buffer.old)) buffer.old (line (Self.Weights.meaning self.now) row) };
-}
+        ensures answers { result ≡ verdict (row_check (meaning self.now) row (length buffer.old)) }
+        ensures writes { buffer.new ≡ unless (row_check (meaning self.now) row (length buffer.old)) buffer.old (line (meaning self.now) row) }
+    {
+        if row >= self.rows() {
+            return Err(Refusal::OutsideSheet);
+        }
+        if buffer.len() != self.columns() {
+            return Err(Refusal::WeightCount);
+        }
+        for (column, weight) in buffer.iter_mut().enumerate() {
+            *weight = self.weight(row, column)?;
+        }
+        Ok(())
+    }
 
-// A row, weight by weight.
-fn read_row<W: Weights>(weights: &W, row: usize, buffer: &mut [i16]) -> Result<(), Refusal>
-    ensures answers { result ≡ verdict (row_check (W.Weights.meaning weights.now) row (length buffer.old)) }
-    ensures writes { buffer.new ≡ unless (row_check (W.Weights.meaning weights.now) row (length buffer.old)) buffer.old (line (W.Weights.meaning weights.now) row) }
-{
-    if row >= weights.rows() {
-        return Err(Refusal::OutsideSheet);
-    }
-    if buffer.len() != weights.columns() {
-        return Err(Refusal::WeightCount);
-    }
-    for column in 0..buffer.len() {
-        buffer[column] = weights.weight(row, column)?;
-    }
-    Ok(())
+    // The bounds that each kind of sheet proves of its meaning.
+    ghost lawful: { (s : Self) → Lawful (meaning s) };
 }
 
 #[cfg(test)]

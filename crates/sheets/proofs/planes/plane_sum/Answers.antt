@@ -1,8 +1,8 @@
 use Rattle.std.proofs.Common.{◌≤◌, ◌+ℤ◌, arith, pow_mono, w16, SFits}
 use Rattle.std.proofs.lemmas.Int.{ints, to_z-of_z}
 use Rattle.sheets.specs.Lawful.{plane_sum_small}
-use Rattle.sheets.proofs.Planes.{plane_sum_more}
-use Rattle.sheets.proofs.plane.plane_sum.Goals as goal
+use Rattle.sheets.proofs.Summing.{plane_sum_more}
+use Rattle.sheets.proofs.planes.plane_sum.Goals as goal
 
 -- The sum of the planes so far and one more term are small.
 fits : (c : goal.After-plane_term-sum) → SFits w16 (c.loop-plane.sum +ℤ c.plane_term-sum.result)

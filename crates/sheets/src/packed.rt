@@ -1,0 +1,72 @@
+// A sheet of weights, however they are packed.
+ghost use Rattle.std.specs.Prelude.{◌≡◌, ◌*◌, ⊤, length};
+ghost use Rattle.refusals.specs.Refusing.{Made};
+ghost use Rattle.sheets.specs.Code.{byte_length};
+ghost use Rattle.sheets.specs.Making.{length_check};
+
+use crate::Sheet;
+use crate::extent::Extent;
+use crate::packing::Packing;
+use refusals::Refusal;
+use std::alloc::AllocError;
+
+// As many bytes as the places take.
+pub struct Packed<'a, P: Packing> {
+    packing: P,
+    extent: Extent,
+    bytes: &'a [u8],
+    ghost whole: { length bytes.now ≡ byte_length (P.code packing) (extent.rows * extent.columns.count) },
+}
+
+impl<'a, P: Packing> Clone for Packed<'a, P> {
+    ghost is_clone = { λ s t. (t.packing ≡ s.packing) × (t.extent ≡ s.extent) × (t.bytes ≡ s.bytes) };
+
+    ghost is_infallible = { λ _. ⊤ };
+
+    fn clone(&self) -> Result<Self, AllocError> {
+        Ok(Packed {
+            packing: self.packing,
+            extent: self.extent,
+            bytes: self.bytes,
+        })
+    }
+}
+
+impl<'a, P: Packing> Copy for Packed<'a, P> {}
+
+impl<'a, P: Packing> Packed<'a, P> {
+    pub(crate) fn over(packing: P, extent: Extent, bytes: &'a [u8]) -> Result<Self, Refusal>
+        ensures { Made (length_check (P.code packing) (extent.rows * extent.columns.count) (length bytes.now)) (λ s. (s.packing ≡ packing) × (s.extent ≡ extent) × (s.bytes.now ≡ bytes.now)) result }
+    {
+        if bytes.len() != packing.code().bytes_for(extent.places()) {
+            return Err(Refusal::ByteLength);
+        }
+        Ok(Packed {
+            packing,
+            extent,
+            bytes,
+        })
+    }
+}
+
+impl<'a, P: Packing> Sheet for Packed<'a, P> {
+    ghost use Rattle.sheets.specs.Lawful.{page_lawful};
+    ghost use Rattle.sheets.specs.Meanings.{sheet_meaning};
+
+    ghost meaning = { λ s. sheet_meaning (P.code s.packing) s };
+
+    fn rows(&self) -> usize {
+        self.extent.rows()
+    }
+
+    fn columns(&self) -> usize {
+        self.extent.columns()
+    }
+
+    fn weight(&self, row: usize, column: usize) -> Result<i16, Refusal> {
+        let place = self.extent.place(row, column)?;
+        Ok(self.packing.weight(self.bytes, self.extent.places(), place))
+    }
+
+    ghost lawful = { λ s. page_lawful (P.code s.packing) (P.few s.packing) s.extent.few_rows s.extent.columns.some s.extent.columns.few s.bytes.now };
+}

@@ -1,0 +1,62 @@
+// How weights lie in bytes: a byte to each, or half a byte.
+ghost use Rattle.std.specs.Prelude.{◌≡◌, ◌<◌, length};
+ghost use Rattle.sheets.specs.declared.code.SheetCode.{SheetCode};
+ghost use Rattle.sheets.specs.declared.code.SheetCode.TheVariants.{Byte, Nibble};
+ghost use Rattle.sheets.specs.Code.{FewPlanes, byte_length};
+ghost use Rattle.sheets.specs.Packing.{weight_at};
+
+use crate::bits::{nibble, signed};
+use crate::code::SheetCode;
+
+// A way to pack weights.
+pub trait Packing: Copy {
+    ghost code: { Self → SheetCode };
+
+    fn code(self) -> SheetCode
+        ensures { result ≡ code self };
+
+    // The weight of one of so many places.
+    fn weight(self, bytes: &[u8], places: usize, place: usize) -> i16
+        requires whole { length bytes.now ≡ byte_length (code self) places }
+        requires inside { place < places }
+        ensures { result ≡ weight_at (code self) places bytes.now place };
+
+    ghost few: { (p : Self) → FewPlanes (code p) };
+}
+
+// Each byte is a weight in two's complement.
+#[derive(Clone, Copy)]
+pub struct Bytes;
+
+impl Packing for Bytes {
+    ghost code = { λ _. Byte };
+
+    fn code(self) -> SheetCode {
+        SheetCode::Byte
+    }
+
+    fn weight(self, bytes: &[u8], _places: usize, place: usize) -> i16 {
+        signed(bytes[place], 128)
+    }
+
+    ghost few = { λ _. tt };
+}
+
+// Two weights to a byte in two's complement, the even place in the lower half. Where the places are odd in number,
+// the last upper half is not read.
+#[derive(Clone, Copy)]
+pub struct Nibbles;
+
+impl Packing for Nibbles {
+    ghost code = { λ _. Nibble };
+
+    fn code(self) -> SheetCode {
+        SheetCode::Nibble
+    }
+
+    fn weight(self, bytes: &[u8], _places: usize, place: usize) -> i16 {
+        signed(nibble(bytes[place / 2], place), 8)
+    }
+
+    ghost few = { λ _. tt };
+}
