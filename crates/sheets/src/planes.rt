@@ -3,7 +3,7 @@ ghost use Rattle.std.specs.Prelude.{◌≡◌, ◌+◌, ◌*◌, ◌/◌, ◌<�
 ghost use Rattle.refusals.specs.Refusing.{Made};
 ghost use Rattle.sheets.specs.declared.code.SheetCode.TheVariants.{Planes};
 ghost use Rattle.sheets.specs.Making.{planes_check};
-ghost use Rattle.sheets.specs.Packing.{plane_sum};
+ghost use Rattle.sheets.specs.Packing.{bit_at, plane_sum, plane_term};
 
 use crate::bits::{bit, plane_term};
 use crate::code::SheetCode;
@@ -53,10 +53,16 @@ fn plane_sum(bytes: &[u8], stride: usize, place: usize, planes: usize) -> i16
     requires inside { place / 8 < stride }
     ensures { result ≡ plane_sum bytes.now stride place planes }
 {
-    let mut sum = 0;
-    for plane in 0..planes {
-        let byte = bytes[plane * stride + place / 8];
-        sum += plane_term(bit(byte, place % 8), plane);
-    }
-    sum
+    (0..planes)
+        .map(|plane| plane_part(bytes, stride, place, plane))
+        .sum()
+}
+
+// What the bit of a place in one plane counts for.
+fn plane_part(bytes: &[u8], stride: usize, place: usize, plane: usize) -> i16
+    requires few { plane < 8 }
+    requires inside { plane * stride + place / 8 < length bytes.now }
+    ensures { result ≡ plane_term (bit_at bytes.now stride place plane) plane }
+{
+    plane_term(bit(bytes[plane * stride + place / 8], place % 8), plane)
 }

@@ -1,22 +1,18 @@
-use Rattle.std.proofs.Common.{◌≤◌, ◌+ℤ◌, arith, pow_mono, w16, SFits}
+use Rattle.std.proofs.Common.{◌+ℤ◌, pos, fold, ◌∙◌, rules, tests, arith, w16, SFits}
 use Rattle.std.proofs.lemmas.Int.{ints, to_z-of_z}
-use Rattle.sheets.specs.Lawful.{plane_sum_small}
-use Rattle.sheets.proofs.Summing.{plane_sum_more}
+use Rattle.std.proofs.lemmas.Iterator.{YieldsList-from_map, YieldsList-from_range}
+use Rattle.std.proofs.lemmas.Iterator.Adapters.{total_from_yields_List}
+use Rattle.sheets.proofs.Summing.{each_front, part, summed, front_small}
 use Rattle.sheets.proofs.planes.plane_sum.Goals as goal
 
--- The sum of the planes so far and one more term are small.
-fits : (c : goal.After-plane_term-sum) → SFits w16 (c.loop-plane.sum +ℤ c.plane_term-sum.result)
-fits c =
-    let low : c.loop-plane.plane ≤ 8 = omega arith in
-    let sum = plane_sum_small c.args.bytes.now c.args.stride c.args.place c.loop-plane.plane in
-    omega (arith, ints, pow_mono low)
+pub sum-requires-clause-fits : goal.sum-requires-clause-fits
+sum-requires-clause-fits c =
+    each_front c.map.result (λ xs. SFits w16 (fold ◌+ℤ◌ (pos 0) xs))
+    (YieldsList-from_map _ (part c.args.bytes.now c.args.stride c.args.place) (YieldsList-from_range 0 c.args.planes c.args.planes (cc) (omega arith)) c.map.ensures.closure (λ x r q k. search (rules, tests)))
+    (front_small c.args.bytes.now c.args.stride c.args.place c.args.planes c.requires.few)
 
-pub overflow_add-sum : goal.overflow_add-sum
-overflow_add-sum c = let small = fits c in omega (arith, ints)
-
-pub loop-plane-preserved : goal.loop-plane-preserved
-loop-plane-preserved c =
-    let sum = to_z-of_z w16 _ (fits c) in
-    let term = to_z-of_z w16 c.plane_term-sum.result (omega (arith, ints)) in
-    let more = plane_sum_more c.args.bytes.now c.args.stride c.args.place c.loop-plane.plane in
-    cc
+pub returns : goal.returns
+returns c =
+    let total = total_from_yields_List ◌+ℤ◌ (pos 0) c.sum.result c.sum.ensures.ran
+    (YieldsList-from_map _ (part c.args.bytes.now c.args.stride c.args.place) (YieldsList-from_range 0 c.args.planes c.args.planes (cc) (omega arith)) c.map.ensures.closure (λ x r q k. search (rules, tests))) in
+    to_z-of_z w16 c.sum.result (omega (arith, ints)) ∙ total ∙ summed c.args.bytes.now c.args.stride c.args.place c.args.planes
