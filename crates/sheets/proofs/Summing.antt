@@ -1,5 +1,5 @@
 -- What the bits of a place count for, plane by plane, summed by an iterator.
-use Rattle.std.proofs.Common.{◌≡◌, ℕ, zero, suc, ◌+◌, ◌≤◌, min, List, [], ◌∷◌, ◌++◌, length, map, take, ℤ, pos, ◌+ℤ◌, fold, Option, refl, sym, ap, ◌∙◌, subst, add-one, arith, w16, SFits, pow_mono}
+use Rattle.std.proofs.Common.{◌≡◌, ℕ, zero, suc, ◌≤◌, min, List, [], ◌∷◌, length, map, take, ℤ, pos, ◌+ℤ◌, fold, Option, refl, sym, ap, ◌∙◌, subst, add-one, arith, w16, SFits, pow_mono}
 use Rattle.std.proofs.lemmas.Int.{ints}
 use Rattle.std.proofs.lemmas.Iterator.{YieldsList}
 use Rattle.std.proofs.lemmas.Iterator.Consumers.{YieldsList-so_far}
@@ -18,7 +18,7 @@ module _ {S A : Type 0} {steps : S → Option A → S → Type 0} {all : List A}
   unfolding YieldsRun
   each_front P road fronts = λ p _ at.
       let front = YieldsList-so_far road p.items p.gave.0.0 (subst (λ u. Yields steps u p.items p.gave.0.0) at p.gave.0.1) in
-      subst P (sym (sym (map-id p.items) ∙ front)) (fronts (length p.items))
+      subst P (sym front ∙ map-id p.items) (fronts (length p.items))
 
 module _ (bytes : List ℕ) (stride k : ℕ) where
   abbrev pub part : ℕ → ℤ

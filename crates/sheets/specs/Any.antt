@@ -1,4 +1,4 @@
--- The packings that are known only when the program runs.
+-- A packing that is known only when the program runs.
 use Rattle.sheets.specs.declared.any.AnyPacking.{AnyPacking}
 use Rattle.sheets.specs.declared.any.AnyPacking.TheVariants as any
 use Rattle.sheets.specs.declared.code.SheetCode.{SheetCode}
@@ -11,6 +11,7 @@ any_code (any.Byte p) = Byte
 any_code (any.Nibble p) = Nibble
 any_code (any.Planes p) = Planes p.count
 
+-- it has at most 8 planes, where there are planes
 pub any_few : (p : AnyPacking) → FewPlanes (any_code p)
 any_few (any.Byte p) = tt
 any_few (any.Nibble p) = tt

@@ -29,6 +29,7 @@ weight_small Byte few places bytes k = signed_small 128 (slice_index bytes k) (o
 weight_small Nibble few places bytes k = signed_small 8 (nibble_at bytes k) (omega arith)
 weight_small (Planes planes) few places bytes k = omega (arith, plane_sum_small bytes (plane_length places) k planes, pow_mono few)
 
+-- a page of few rows and columns keeps the bounds, however it is packed
 pub page_lawful : (code : SheetCode) → FewPlanes code → {rows columns : ℕ} → rows ≤ 128 → 1 ≤ columns → columns ≤ 16 → (bytes : List ℕ) → Lawful (page code rows columns bytes)
 page_lawful code few few_rows some few_columns bytes = record {
   few_rows = few_rows;

@@ -1,13 +1,6 @@
 // What the bits of a packed byte say.
-ghost use Rattle.std.specs.Prelude.{◌≡◌, ◌*◌, ◌<◌, ◌≤◌, slice_index, unsigned_abs};
+ghost use Rattle.std.specs.Prelude.{◌≡◌, ◌*◌, ◌<◌, ◌≤◌, unsigned_abs};
 ghost use Rattle.sheets.specs.Packing.{bit, nibble, plane_term, signed};
-
-// The byte at a place, or 0 past the end.
-pub(crate) fn byte_at(bytes: &[u8], place: usize) -> u8
-    ensures { result ≡ slice_index bytes.now place }
-{
-    if place < bytes.len() { bytes[place] } else { 0 }
-}
 
 // A code in two's complement, whose highest bit counts for `half`.
 pub(crate) fn signed(code: u8, half: u8) -> i16

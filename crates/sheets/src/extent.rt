@@ -10,15 +10,16 @@ use refusals::Refusal;
 // A sheet has at most so many rows.
 const MOST_ROWS: usize = 128;
 
+// At most 128 rows, and 1 to 16 columns.
 #[derive(Clone, Copy)]
-pub struct Extent {
+pub(crate) struct Extent {
     rows: usize,
     columns: Columns,
     ghost few_rows: { rows ≤ 128 },
 }
 
 impl Extent {
-    pub(crate) fn new(rows: usize, columns: usize) -> Result<Extent, Refusal>
+    pub fn new(rows: usize, columns: usize) -> Result<Extent, Refusal>
         ensures { Made (extent_check rows columns) (λ x. (x.rows ≡ rows) × (x.columns.count ≡ columns)) result }
     {
         if rows > MOST_ROWS {
@@ -28,20 +29,20 @@ impl Extent {
         Ok(Extent { rows, columns })
     }
 
-    pub(crate) fn rows(self) -> usize
+    pub fn rows(self) -> usize
         ensures { result ≡ self.rows }
     {
         self.rows
     }
 
-    pub(crate) fn columns(self) -> usize
+    pub fn columns(self) -> usize
         ensures { result ≡ self.columns.count }
     {
         self.columns.count()
     }
 
     // How many places there are.
-    pub(crate) fn places(self) -> usize
+    pub fn places(self) -> usize
         ensures value { result ≡ self.rows * self.columns.count }
         ensures bound { result ≤ 2048 }
     {
@@ -49,7 +50,7 @@ impl Extent {
     }
 
     // The place of a row and a column, counted row by row.
-    pub(crate) fn place(self, row: usize, column: usize) -> Result<usize, Refusal>
+    pub fn place(self, row: usize, column: usize) -> Result<usize, Refusal>
         ensures { result ≡ answer (outside_check self.rows self.columns.count row column) (row * self.columns.count + column) }
     {
         if row >= self.rows() || column >= self.columns() {

@@ -17,14 +17,9 @@ mod packed;
 mod packing;
 mod planes;
 
-pub use any::AnyPacking;
 pub use code::SheetCode;
-pub use extent::Extent;
 pub use laws::{codes_stand_for_weights, spare_bits_unread};
 pub use making::{AnySheet, ByteSheet, NibbleSheet, PlaneSheet};
-pub use packed::Packed;
-pub use packing::{Bytes, Nibbles, Packing};
-pub use planes::BitPlanes;
 
 // Weights in rows and columns.
 pub trait Sheet {

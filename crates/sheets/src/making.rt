@@ -3,7 +3,7 @@ ghost use Rattle.std.specs.Prelude.{◌≡◌, length};
 ghost use Rattle.refusals.specs.Refusing.{Made};
 ghost use Rattle.sheets.specs.declared.code.SheetCode.TheVariants.{Byte, Nibble, Planes};
 ghost use Rattle.sheets.specs.Making.{making_check};
-ghost use Rattle.sheets.specs.Meanings.{any_meaning, sheet_meaning};
+ghost use Rattle.sheets.specs.Meanings.{packed_meaning};
 ghost use Rattle.sheets.specs.Packing.{page};
 
 use crate::any::AnyPacking;
@@ -19,12 +19,13 @@ pub type ByteSheet<'a> = Packed<'a, Bytes>;
 pub type NibbleSheet<'a> = Packed<'a, Nibbles>;
 
 pub type PlaneSheet<'a> = Packed<'a, BitPlanes>;
+
 // Its packing is known only when the program runs.
 pub type AnySheet<'a> = Packed<'a, AnyPacking>;
 
 impl<'a> Packed<'a, Bytes> {
     pub fn new(rows: usize, columns: usize, bytes: &'a [u8]) -> Result<ByteSheet<'a>, Refusal>
-        ensures { Made (making_check Byte rows columns (length bytes.now)) (λ s. sheet_meaning Byte s ≡ page Byte rows columns bytes.now) result }
+        ensures { Made (making_check Byte rows columns (length bytes.now)) (λ s. packed_meaning s ≡ page Byte rows columns bytes.now) result }
     {
         Packed::over(Bytes, Extent::new(rows, columns)?, bytes)
     }
@@ -32,7 +33,7 @@ impl<'a> Packed<'a, Bytes> {
 
 impl<'a> Packed<'a, Nibbles> {
     pub fn new(rows: usize, columns: usize, bytes: &'a [u8]) -> Result<NibbleSheet<'a>, Refusal>
-        ensures { Made (making_check Nibble rows columns (length bytes.now)) (λ s. sheet_meaning Nibble s ≡ page Nibble rows columns bytes.now) result }
+        ensures { Made (making_check Nibble rows columns (length bytes.now)) (λ s. packed_meaning s ≡ page Nibble rows columns bytes.now) result }
     {
         Packed::over(Nibbles, Extent::new(rows, columns)?, bytes)
     }
@@ -45,7 +46,7 @@ impl<'a> Packed<'a, BitPlanes> {
         planes: usize,
         bytes: &'a [u8],
     ) -> Result<PlaneSheet<'a>, Refusal>
-        ensures { Made (making_check (Planes planes) rows columns (length bytes.now)) (λ s. sheet_meaning (Planes s.packing.count) s ≡ page (Planes planes) rows columns bytes.now) result }
+        ensures { Made (making_check (Planes planes) rows columns (length bytes.now)) (λ s. packed_meaning s ≡ page (Planes planes) rows columns bytes.now) result }
     {
         let extent = Extent::new(rows, columns)?;
         Packed::over(BitPlanes::new(planes)?, extent, bytes)
@@ -60,7 +61,7 @@ impl<'a> Packed<'a, AnyPacking> {
         columns: usize,
         bytes: &'a [u8],
     ) -> Result<AnySheet<'a>, Refusal>
-        ensures { Made (making_check code rows columns (length bytes.now)) (λ s. any_meaning s ≡ page code rows columns bytes.now) result }
+        ensures { Made (making_check code rows columns (length bytes.now)) (λ s. packed_meaning s ≡ page code rows columns bytes.now) result }
     {
         let extent = Extent::new(rows, columns)?;
         Packed::over(AnyPacking::new(code)?, extent, bytes)

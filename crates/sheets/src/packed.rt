@@ -10,7 +10,7 @@ use crate::packing::Packing;
 use refusals::Refusal;
 use std::alloc::AllocError;
 
-// As many bytes as the places take.
+// Bytes, as many as their places take.
 pub struct Packed<'a, P: Packing> {
     packing: P,
     extent: Extent,
@@ -18,6 +18,7 @@ pub struct Packed<'a, P: Packing> {
     ghost whole: { length bytes.now ≡ byte_length (P.code packing) (extent.rows * extent.columns.count) },
 }
 
+// By hand: a derive is refused for a generic struct with a ghost field.
 impl<'a, P: Packing> Clone for Packed<'a, P> {
     ghost is_clone = { λ s t. (t.packing ≡ s.packing) × (t.extent ≡ s.extent) × (t.bytes ≡ s.bytes) };
 
@@ -35,6 +36,7 @@ impl<'a, P: Packing> Clone for Packed<'a, P> {
 impl<'a, P: Packing> Copy for Packed<'a, P> {}
 
 impl<'a, P: Packing> Packed<'a, P> {
+    // Refused where the bytes are not as many as the places take.
     pub(crate) fn over(packing: P, extent: Extent, bytes: &'a [u8]) -> Result<Self, Refusal>
         ensures { Made (length_check (P.code packing) (extent.rows * extent.columns.count) (length bytes.now)) (λ s. (s.packing ≡ packing) × (s.extent ≡ extent) × (s.bytes.now ≡ bytes.now)) result }
     {
@@ -51,9 +53,9 @@ impl<'a, P: Packing> Packed<'a, P> {
 
 impl<'a, P: Packing> Sheet for Packed<'a, P> {
     ghost use Rattle.sheets.specs.Lawful.{page_lawful};
-    ghost use Rattle.sheets.specs.Meanings.{sheet_meaning};
+    ghost use Rattle.sheets.specs.Meanings.{packed_meaning};
 
-    ghost meaning = { λ s. sheet_meaning (P.code s.packing) s };
+    ghost meaning = { packed_meaning };
 
     fn rows(&self) -> usize {
         self.extent.rows()

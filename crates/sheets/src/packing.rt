@@ -21,6 +21,7 @@ pub trait Packing: Copy {
         requires inside { place < places }
         ensures { result ≡ weight_at (code self) places bytes.now place };
 
+    // There are at most 8 planes, where there are planes.
     ghost few: { (p : Self) → FewPlanes (code p) };
 }
 
