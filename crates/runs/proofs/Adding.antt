@@ -3,9 +3,10 @@ use Rattle.std.proofs.Common.{◌≡◌, ℕ, ◌+◌, ◌*◌, ◌^◌, ◌<◌
 use Rattle.std.proofs.lemmas.List.FromFn.{get_or-map-range_with_len, length-map-range_with_len}
 use Rattle.std.proofs.lemmas.List.{get_or_past}
 use Rattle.std.proofs.lemmas.Bool.{cases_lt}
-use Rattle.refusals.specs.declared.Refusal.TheVariants.{WeightNotTakenAt}
-use Rattle.units.specs.Meaning.{Meaning, columns_of, untaken, added, after_add}
-use Rattle.units.proofs.Checks.{leaves_added, taken_each}
+use Rattle.std.specs.Option.{option_map}
+use Rattle.refusals.specs.declared.Refusal.TheVariants.{WeightNotTaken}
+use Rattle.units.specs.Meaning.{Meaning, columns_of, first_untaken, added}
+use Rattle.units.proofs.Checks.{Accepted, taken_each, untaken_first}
 use Rattle.runs.specs.State.{State, put, widened}
 
 -- ---- slacks
@@ -19,12 +20,10 @@ slacks_bounded true ns ws n h k c = ⊎_elim inside outside (cases_lt c (length 
     outside : length ns ≤ c → get_or (widened ns ws) c 0 ≤ 255 * (n + 1)
     outside l = omega (arith, get_or_past (widened ns ws) c 0 (omega (arith, l, length-map-range_with_len (λ i. get_or ns i 0 + nat_abs (get_or ws i (pos 0))) 0 (length ns))))
 
--- ---- the unit as an add leaves it, at the number and the weights that it was given
-pub unit_added : (m n : Meaning) (a b : ℤ) (ws vs : List ℤ) (row : ℕ) → a ≡ b → ws ≡ vs → length vs ≡ columns_of m → m.rows < m.limit → nat_abs b < 2 ^ 36 → untaken m.takes (WeightNotTakenAt row) 0 vs ≡ None
-    → n ≡ after_add m a ws → n ≡ added m b vs
-unit_added m n a b ws vs row p q size room small taken h =
-    h ∙ ap (λ k. after_add m k ws) p ∙ ap (after_add m b) q
-    ∙ sym (leaves_added m b vs (record { one_each = size; room = room; small = small; taken = taken_each m.takes (WeightNotTakenAt row) 0 vs taken }))
+-- ---- the unit accepts a row of which it takes every weight
+pub accepted_row : (m : Meaning) (a : ℤ) (ws : List ℤ) → length ws ≡ columns_of m → m.rows < m.limit → nat_abs a < 2 ^ 36 → first_untaken m.takes ws ≡ None → Accepted m a ws
+accepted_row m a ws size room small taken =
+    record { one_each = size; room = room; small = small; taken = taken_each m.takes WeightNotTaken 0 ws (untaken_first m.takes WeightNotTaken 0 ws ∙ ap (option_map WeightNotTaken) taken) }
 
 -- ---- the run with the row
 pub row_put : (s : State) (a : ℤ) (b : Bool) (ws : List ℤ) (m : Meaning) (ns : List ℕ) → m ≡ added s.unit a ws → ns ≡ cond b (widened s.slacks ws) s.slacks

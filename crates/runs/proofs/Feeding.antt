@@ -1,24 +1,29 @@
 -- A tile that passed its checks, added row by row.
-use Rattle.std.proofs.Common.{◌≡◌, ℕ, ◌+◌, ◌<◌, ◌≤◌, List, ◌∷◌, map, length, get_or, drop, Some, None, fold, Option, sym, refl, ap, ◌∙◌, arith}
-use Rattle.std.proofs.lemmas.List.{drop_more, drop_all, get_or_append_left, get_or-map, length-map}
+use Rattle.std.proofs.Common.{◌≡◌, ℕ, ◌+◌, ◌<◌, ◌≤◌, Bool, List, ◌∷◌, map, length, get_or, drop, ℤ, Some, None, fold, Option, sym, refl, ap, ◌∙◌, arith}
+use Rattle.std.proofs.lemmas.List.{drop_more, drop_all}
+use Rattle.std.specs.Option.{option_map}
+use Rattle.refusals.specs.declared.Refusal.{Refusal}
 use Rattle.refusals.specs.declared.Refusal.TheVariants.{WeightNotTakenAt}
 use Rattle.refusals.proofs.Refusing.{none_some, both_passed}
 use Rattle.sums.specs.Terms.{step_of, value, cut, lost}
 use Rattle.formats.specs.Coding.{Decoded}
 use Rattle.alignment.specs.Tile.{Tile}
-use Rattle.alignment.specs.Cutting.{nothing, aligned, written_over, word_check}
+use Rattle.alignment.specs.Cutting.{aligned, word_check}
 use Rattle.alignment.specs.declared.cutting.Aligned.{Aligned}
 use Rattle.sheets.specs.Page.{Page, line}
-use Rattle.units.specs.Meaning.{untaken}
+use Rattle.units.specs.Meaning.{untaken, first_untaken}
+use Rattle.units.proofs.Checks.{untaken_first}
 use Rattle.runs.specs.Checks.{Setting, row_check, rows_check}
 use Rattle.runs.specs.State.{State, Row, setting_of, step_size, put, add_row, rows_of}
 use Rattle.runs.proofs.Holding.{setting_kept}
 
--- a buffer that a tile was cut into has the aligned number of each of its words
-pub cut_at : (step : ℕ) (ts : Tile) (buffer : List Aligned) (i : ℕ) → i < length ts → get_or (written_over step ts buffer) i nothing ≡ aligned step (get_or ts i None)
-cut_at step ts buffer i h =
-    get_or_append_left (map (aligned step) ts) (drop (length ts) buffer) nothing i (rw length-map h)
-    ∙ get_or-map (aligned step) ts i None nothing h
+-- where no weight is refused, none is left
+map_none : (o : Option ℕ) (f : ℕ → Refusal) → option_map f o ≡ None → o ≡ None
+map_none None f e = refl
+map_none (Some c) f e = absurd (none_some e refl)
+
+none_untaken : (takes : ℤ → Bool) (row : ℕ) (ws : List ℤ) → untaken takes (WeightNotTakenAt row) 0 ws ≡ None → first_untaken takes ws ≡ None
+none_untaken takes row ws e = map_none _ (WeightNotTakenAt row) (sym (untaken_first takes (WeightNotTakenAt row) 0 ws) ∙ e)
 
 -- what holds after i rows of a tile were added to a run that started at `start`
 pub record Midway (start run : State) (p : Page) (ts : Tile) (i : ℕ) : Type 0 where
@@ -47,10 +52,10 @@ module _ (start run : State) (p : Page) (ts : Tile) (i : ℕ) (m : Midway start 
     both = both_passed _ _ (sym (ap (rows_check start.shared start.unit.takes p i) here) ∙ m.passing)
 
     -- the unit takes all weights of the row at hand
-    pub midway_taken : untaken run.unit.takes (WeightNotTakenAt i) 0 (line p i) ≡ None
+    pub midway_taken : first_untaken run.unit.takes (line p i) ≡ None
     midway_taken =
-        ap (λ (z : Setting). untaken z.takes (WeightNotTakenAt i) 0 (line p i)) m.setting
-        ∙ (both_passed (word_check start.shared i (get_or ts i None)) _ both.0).1
+        ap (λ (z : Setting). first_untaken z.takes (line p i)) m.setting
+        ∙ none_untaken start.unit.takes i (line p i) (both_passed (word_check start.shared i (get_or ts i None)) _ both.0).1
 
     -- the row at hand has a finite word, so that cutting it and putting it adds the row
     pub midway_more : (a : Aligned) (next : State) → a ≡ aligned (step_size start) (get_or ts i None) → next ≡ put run a.number a.lost (line p i) → Midway start next p ts (i + 1)

@@ -1,6 +1,5 @@
 pub mod Holding
 pub mod Alike
-pub mod Lines
 pub mod Tiles
 pub mod Adding
 pub mod Feeding

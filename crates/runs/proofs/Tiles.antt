@@ -1,18 +1,26 @@
 -- The checks of a tile, row by row.
-use Rattle.std.proofs.Common.{◌≡◌, ℕ, ◌+◌, ◌<◌, ◌≤◌, Bool, List, [], ◌∷◌, map, length, get_or, drop, ℤ, Some, None, Option, refl, ap, ◌∙◌, arith}
+use Rattle.std.proofs.Common.{◌≡◌, ℕ, ◌+◌, ◌<◌, ◌≤◌, Bool, List, [], ◌∷◌, map, length, get_or, drop, ℤ, Some, None, Option, sym, refl, ap, ◌∙◌, arith}
 use Rattle.std.proofs.lemmas.Bool.{ltb-false, eqb-true, not-false}
 use Rattle.std.proofs.lemmas.Bool.Decides.{nat_tests}
+use Rattle.std.specs.Option.{option_map}
 use Rattle.refusals.specs.declared.Refusal.{Refusal}
 use Rattle.refusals.specs.declared.Refusal.TheVariants.{TooManyWords, RowLimit, WeightNotTakenAt, WordCount, ColumnsDiffer}
 use Rattle.refusals.specs.Refusing.{refuse, first}
-use Rattle.refusals.proofs.Refusing.{both_passed, passed}
+use Rattle.refusals.proofs.Refusing.{first_passes, both_passed, passed}
 use Rattle.formats.specs.Coding.{Decoded}
 use Rattle.alignment.specs.Tile.{Tile}
 use Rattle.alignment.specs.Cutting.{word_check, words_check, cut_check}
 use Rattle.alignment.proofs.Surveying.{tile_at}
 use Rattle.sheets.specs.Page.{Page, line}
-use Rattle.units.specs.Meaning.{untaken}
+use Rattle.units.specs.Meaning.{untaken, first_untaken}
+use Rattle.units.proofs.Checks.{untaken_first}
 use Rattle.runs.specs.Checks.{Setting, row_check, rows_check, feed_check}
+
+-- ---- a row
+-- its word passes, so the first column whose weight is not taken decides
+pub column_decides : (shared : ℤ) (takes : ℤ → Bool) (row : ℕ) (word : Option Decoded) (ws : List ℤ) (column : Option ℕ) → word_check shared row word ≡ None → column ≡ first_untaken takes ws → row_check shared takes row word ws ≡ option_map (WeightNotTakenAt row) column
+column_decides shared takes row word ws column ok e =
+    first_passes _ ok ∙ untaken_first takes (WeightNotTakenAt row) 0 ws ∙ ap (option_map (WeightNotTakenAt row)) (sym e)
 
 -- ---- the rows of a loop
 module _ {W : Type 0} (f : W → Option Decoded) (ws : List W) (i : ℕ) (w : W) (h : i < length ws) (at : w ≡ get_or ws i w) (shared : ℤ) (takes : ℤ → Bool) (p : Page) where

@@ -10,6 +10,7 @@ mod questions;
 mod surveying;
 
 use alignment::{ExtraBits, SharedExponent, Step};
+use columns::MOST_COLUMNS;
 
 // A run whose shared exponent is still being found.
 #[derive(Drop)]
@@ -29,7 +30,7 @@ pub struct AlignedRun<F, U> {
     // The rows fed since opening or clear.
     rows: u32,
     // For each column, the most that cutting can have moved its total, in steps.
-    slacks: [u32; 16],
+    slacks: [u32; MOST_COLUMNS],
     ghost wide: { length slacks ≡ 16 },
     ghost short: { rows ≤ 65536 },
     ghost bounded: { (c : ℕ) → slice_index slacks c ≤ 255 * rows },

@@ -10,6 +10,7 @@ ghost use Rattle.runs.specs.Runs.{aligned, surveying};
 
 use crate::{AlignedRun, SurveyingRun};
 use alignment::{ExtraBits, SharedExponent, Step};
+use columns::MOST_COLUMNS;
 use formats::Format;
 use refusals::Refusal;
 use units::Unit;
@@ -60,7 +61,7 @@ impl<F: Format, U: Unit> SurveyingRun<F, U> {
             unit,
             step,
             rows: 0,
-            slacks: [0; 16],
+            slacks: [0; MOST_COLUMNS],
         }
     }
 }

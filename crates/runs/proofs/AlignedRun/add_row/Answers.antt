@@ -1,54 +1,33 @@
-use Rattle.std.proofs.Common.{◌≡◌, ℕ, ◌+◌, ◌-◌, ◌*◌, ◌≤◌, cond, List, length, get_or, take, sym, refl, ap, ◌∙◌, subst, arith, length-take, w64, SFits, to_z, of_z, rules}
+use Rattle.std.proofs.Common.{◌≡◌, ℕ, ◌+◌, ◌*◌, ◌≤◌, cond, length, List, get_or, sym, ap, ◌∙◌, subst, arith, w64, SFits, rules}
 use Rattle.std.proofs.lemmas.Int.{to_z-of_z}
-use Rattle.std.proofs.lemmas.List.FromFn.{length-map-range_with_len}
-use Rattle.sheets.specs.Page.{line}
-use Rattle.runs.specs.State.{widened}
+use Rattle.units.specs.Meaning.{after_add}
+use Rattle.units.proofs.Checks.{leaves_added, weights_bounded}
 use Rattle.runs.specs.Runs.{aligned}
-use Rattle.runs.proofs.Adding.{slacks_bounded, unit_added, row_put}
+use Rattle.runs.proofs.Adding.{slacks_bounded, accepted_row, row_put}
 use Rattle.runs.proofs.Holding.{length_row}
-use Rattle.runs.proofs.Lines.{line_small}
 use Rattle.runs.proofs.AlignedRun.add_row.Goals as goal
-
-pub note_loss-requires : goal.note_loss-requires
-note_loss-requires g c =
-    let run = c.args.self.now in
-    record {
-      few = simp length-take (omega (arith, c.columns.ensures, (g.S.Weights.lawful c.args.sheet.now).few_columns));
-      room = λ k. omega (arith, run.bounded k, c.requires.few);
-    }
 
 pub invariant_of-self : goal.invariant_of-self
 invariant_of-self g c =
     let run = c.args.self.now in
-    let row = c.args.row in
-    let page = g.S.Weights.meaning c.args.sheet.now in
-    let weights : take (c.columns.result - 0) c.row_of-line.result ≡ line page row =
-    ap (λ n. take n c.row_of-line.result) (omega (arith, c.columns.ensures)) ∙ c.row_of-line.ensures in
+    let ws = c.args.weights.now in
+    let unit = g.U.Unit.meaning run.unit in
     let lost = c.args.cut.lost in
-    let slacks = c.note_loss.ensures ∙ ap (λ ws. cond lost (widened run.slacks ws) run.slacks) weights in
+    let ok = accepted_row unit c.args.cut.number ws c.requires.columns c.requires.room c.requires.small c.requires.taken in
+    let small = weights_bounded unit c.args.cut.number ws (g.met.U.Unit.lawful run.unit).taken ok in
     record {
-      wide = ap length slacks ∙ length_row lost run.slacks (line page row) ∙ run.wide;
+      wide = ap length c.note_loss.ensures ∙ length_row lost run.slacks ws ∙ run.wide;
       short = omega (arith, c.requires.few);
-      bounded = λ k. subst (λ (ns : List ℕ). get_or ns k 0 ≤ 255 * (run.rows + 1)) (sym slacks)
-          (slacks_bounded lost run.slacks (line page row) run.rows run.bounded (line_small page (g.S.Weights.lawful c.args.sheet.now) row) k);
+      bounded = λ k. subst (λ (ns : List ℕ). get_or ns k 0 ≤ 255 * (run.rows + 1)) (sym c.note_loss.ensures) (slacks_bounded lost run.slacks ws run.rows run.bounded small k);
     }
 
-pub returns : goal.returns
-returns g c =
+pub returns-clause-puts : goal.returns-clause-puts
+returns-clause-puts g c =
     let run = c.args.self.now in
-    let row = c.args.row in
+    let ws = c.args.weights.now in
     let s = aligned g.F.Format.meaning g.U.Unit.meaning run in
-    let page = g.S.Weights.meaning c.args.sheet.now in
-    let weights : take (c.columns.result - 0) c.row_of-line.result ≡ line page row =
-    ap (λ n. take n c.row_of-line.result) (omega (arith, c.columns.ensures)) ∙ c.row_of-line.ensures in
-    let lost = c.args.cut.lost in
-    let slacks = c.note_loss.ensures ∙ ap (λ ws. cond lost (widened run.slacks ws) run.slacks) weights in
     let number = c.args.cut.number in
     let fits : SFits w64 number = search rules in
-    record {
-      format = refl;
-      puts = row_put s number lost (line page row) _ _
-          (unit_added s.unit _ (to_z w64 (of_z w64 number)) number (take (c.columns.result - 0) c.row_of-line.result) (line page row) row (to_z-of_z w64 number fits) weights
-          (length-map-range_with_len (page.weight row) 0 page.columns ∙ c.requires.columns) c.requires.room c.requires.small c.requires.taken (search rules))
-          slacks;
-    }
+    let ok = accepted_row s.unit number ws c.requires.columns c.requires.room c.requires.small c.requires.taken in
+    let grew = subst (λ a. g.U.Unit.meaning c.add.new.self ≡ after_add s.unit a ws) (to_z-of_z w64 number fits) c.add.ensures.grows in
+    row_put s number c.args.cut.lost ws _ _ (grew ∙ sym (leaves_added s.unit number ws ok)) c.note_loss.ensures

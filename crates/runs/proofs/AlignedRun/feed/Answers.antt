@@ -1,78 +1,48 @@
-use Rattle.std.proofs.Common.{◌<◌, map, length, get_or, Err, fold, sym, refl, ap, ◌∙◌, arith}
-use Rattle.std.proofs.lemmas.List.{length-map}
-use Rattle.std.proofs.lemmas.Result.{err_from_is_err_and}
-use Rattle.refusals.proofs.Refusing.{none_some, when_ok, when_err, refused, accepted, kept, changed}
-use Rattle.alignment.specs.Cutting.{nothing, cut_check}
+use Rattle.std.proofs.Common.{◌≡◌, ◌<◌, ◌≤◌, map, length, get_or, None, fold, sym, refl, ap, ◌∙◌, arith}
+use Rattle.std.proofs.lemmas.List.{length-map, get_or-map}
+use Rattle.std.proofs.lemmas.List.FromFn.{length-map-range_with_len}
+use Rattle.refusals.proofs.Refusing.{none_some, when_ok, was_made, was_refused, accepted, changed}
+use Rattle.alignment.specs.Cutting.{nothing, aligned as aligned_number, cut_check}
+use Rattle.units.specs.Meaning.{first_untaken}
 use Rattle.runs.specs.Checks.{Setting}
-use Rattle.runs.specs.State.{setting_of, step_size, add_row, rows_of, fed_check}
+use Rattle.runs.specs.State.{setting_of, step_size, put, add_row, rows_of, fed_check}
 use Rattle.runs.specs.Runs.{aligned}
-use Rattle.runs.proofs.Feeding.{cut_at, midway_none, midway_all, midway_taken, midway_more}
+use Rattle.runs.proofs.Feeding.{midway_none, midway_all, midway_taken, midway_more}
 use Rattle.runs.proofs.Holding.{logged_feed}
 use Rattle.runs.proofs.Tiles.{passes}
 use Rattle.runs.proofs.AlignedRun.feed.Goals as goal
 
-pub returns-in_err-check_tile : goal.returns-in_err-check_tile
-returns-in_err-check_tile g c =
-    let run = c.args.self.now in
-    let s = aligned g.F.Format.meaning g.U.Unit.meaning run in
-    let tile = map (g.F.Format.meaning run.format).decode c.args.words.now in
-    let page = g.S.Weights.meaning c.args.sheet.now in
-    let p = err_from_is_err_and c.from_residual.result c.from_residual.ensures.1 in
-    let no = when_err (fed_check s tile page) _ _ c.in_err-check_tile.ensures in
-    let same = kept s (fold add_row s (rows_of page 0 tile)) no in
-    record { answers = p.1 ∙ ap Err p.2 ∙ refused tt no; format = refl; feeds = same; logs = logged_feed s s tile page refl same }
-
 -- a tile that passed its checks can be cut
-pub returns-in_err-cut_tile : goal.returns-in_err-cut_tile
-returns-in_err-cut_tile g c =
+pub returns-in_err-cuts : goal.returns-in_err-cuts
+returns-in_err-cuts g c =
     let run = c.args.self.now in
     let s = aligned g.F.Format.meaning g.U.Unit.meaning run in
     let tile = map (g.F.Format.meaning run.format).decode c.args.words.now in
-    let page = g.S.Weights.meaning c.args.sheet.now in
+    let page = g.S.Sheet.meaning c.args.sheet.now in
     let ok = passes (setting_of s) _ _ tile page (when_ok (fed_check s tile page) _ _ c.in_ok-check_tile.ensures).0 in
-    absurd (none_some ok.cuttable (when_err (cut_check s.shared tile) _ _ c.in_err-cut_tile.ensures.answers))
+    absurd (none_some ok.cuttable (was_refused (cut_check s.shared tile) _ _ c.in_err-cuts.ensures.made))
 
-pub loop-row-init : goal.loop-row-init
-loop-row-init g c =
-    let s = aligned g.F.Format.meaning g.U.Unit.meaning c.args.self.now in
-    let tile = map (g.F.Format.meaning c.args.self.now.format).decode c.args.words.now in
-    let page = g.S.Weights.meaning c.args.sheet.now in
-    let ok = (when_ok (fed_check s tile page) _ _ c.in_ok-check_tile.ensures).0 in
-    (refl, midway_none s page tile (passes (setting_of s) _ _ tile page ok).each)
-
-pub bounds-cuts-row : goal.bounds-cuts-row
-bounds-cuts-row g c =
+pub add_row-requires-clause-columns : goal.add_row-requires-clause-columns
+add_row-requires-clause-columns g c =
     let run = c.args.self.now in
     let s = aligned g.F.Format.meaning g.U.Unit.meaning run in
     let tile = map (g.F.Format.meaning run.format).decode c.args.words.now in
-    let page = g.S.Weights.meaning c.args.sheet.now in
+    let page = g.S.Sheet.meaning c.args.sheet.now in
     let ok = passes (setting_of s) _ _ tile page (when_ok (fed_check s tile page) _ _ c.in_ok-check_tile.ensures).0 in
-    let size = length-map c.args.words.now (g.F.Format.meaning run.format).decode in
-    omega (arith, size, ok.as_many, (g.S.Weights.lawful c.args.sheet.now).few_rows, c.loop-row-test.true)
+    ap length c.line_of.ensures ∙ length-map-range_with_len (page.weight c.loop-row.row) 0 page.columns ∙ ok.as_wide ∙ sym (ap (λ (z : Setting). z.columns) c.loop-row.invariant.1.setting)
 
-pub add_row-requires : goal.add_row-requires
-add_row-requires g c =
+pub add_row-requires-clause-taken : goal.add_row-requires-clause-taken
+add_row-requires-clause-taken g c =
     let run = c.args.self.now in
     let s = aligned g.F.Format.meaning g.U.Unit.meaning run in
     let here = aligned g.F.Format.meaning g.U.Unit.meaning c.loop-row.self in
     let tile = map (g.F.Format.meaning run.format).decode c.args.words.now in
-    let page = g.S.Weights.meaning c.args.sheet.now in
-    let ok = passes (setting_of s) _ _ tile page (when_ok (fed_check s tile page) _ _ c.in_ok-check_tile.ensures).0 in
-    let size = length-map c.args.words.now (g.F.Format.meaning run.format).decode in
+    let page = g.S.Sheet.meaning c.args.sheet.now in
     let i = c.loop-row.row in
-    let mid = c.loop-row.invariant.1 in
-    let law = g.met.U.Unit.lawful run.unit in
-    let columns = ap (λ (z : Setting). z.columns) mid.setting in
-    let limit = ap (λ (z : Setting). z.limit) mid.setting in
-    let inside : i < length tile = omega (arith, size, c.loop-row-test.true) in
-    record {
-      inside = omega (arith, ok.as_many, size, c.loop-row-test.true);
-      columns = ok.as_wide ∙ sym columns;
-      small = c.cut_tile.ensures.small ok.cuttable i c.loop-row-test.true;
-      taken = midway_taken s here page tile i mid inside;
-      room = omega (arith, ok.room, size, mid.unit_rows, limit, c.loop-row-test.true);
-      few = omega (arith, ok.room, size, mid.rows, law.few_rows, c.loop-row-test.true);
-    }
+    let cut = was_made (cut_check s.shared tile) (λ v. v.items ≡ map (aligned_number (step_size s)) tile) c.in_ok-cuts.cuts c.in_ok-cuts.ensures.made in
+    let items : c.deref-cut-items.result.now ≡ map (aligned_number (step_size s)) tile = c.deref-cut-items.ensures.0 ∙ cut.1 in
+    let inside : i < length tile = omega (arith, ap length items, length-map tile (aligned_number (step_size s)), c.loop-row-test.true) in
+    ap (first_untaken here.unit.takes) c.line_of.ensures ∙ midway_taken s here page tile i c.loop-row.invariant.1 inside
 
 pub loop-row-preserved : goal.loop-row-preserved
 loop-row-preserved g c =
@@ -80,15 +50,15 @@ loop-row-preserved g c =
     let s = aligned g.F.Format.meaning g.U.Unit.meaning run in
     let here = aligned g.F.Format.meaning g.U.Unit.meaning c.loop-row.self in
     let tile = map (g.F.Format.meaning run.format).decode c.args.words.now in
-    let page = g.S.Weights.meaning c.args.sheet.now in
-    let ok = passes (setting_of s) _ _ tile page (when_ok (fed_check s tile page) _ _ c.in_ok-check_tile.ensures).0 in
-    let size = length-map c.args.words.now (g.F.Format.meaning run.format).decode in
+    let page = g.S.Sheet.meaning c.args.sheet.now in
     let i = c.loop-row.row in
-    let inside : i < length tile = omega (arith, size, c.loop-row-test.true) in
-    let cuts = c.cut_tile.ensures.writes ∙ sym (changed _ _ ok.cuttable) in
-    let is = ap (λ buffer. get_or buffer i nothing) cuts ∙ cut_at (step_size s) tile _ i inside in (
+    let cut = was_made (cut_check s.shared tile) (λ v. v.items ≡ map (aligned_number (step_size s)) tile) c.in_ok-cuts.cuts c.in_ok-cuts.ensures.made in
+    let items : c.deref-cut-items.result.now ≡ map (aligned_number (step_size s)) tile = c.deref-cut-items.ensures.0 ∙ cut.1 in
+    let inside : i < length tile = omega (arith, ap length items, length-map tile (aligned_number (step_size s)), c.loop-row-test.true) in
+    let cut_here = get_or c.deref-cut-items.result.now i nothing in
+    let is = ap (λ cuts. get_or cuts i nothing) items ∙ get_or-map (aligned_number (step_size s)) tile i None nothing inside in (
       c.add_row.ensures.format ∙ c.loop-row.invariant.0,
-      midway_more s here page tile i c.loop-row.invariant.1 inside _ _ is c.add_row.ensures.puts,
+      midway_more s here page tile i c.loop-row.invariant.1 inside _ _ is (c.add_row.ensures.puts ∙ ap (put here cut_here.number cut_here.lost) c.line_of.ensures),
     )
 
 pub returns : goal.returns
@@ -96,8 +66,10 @@ returns g c =
     let run = c.args.self.now in
     let s = aligned g.F.Format.meaning g.U.Unit.meaning run in
     let tile = map (g.F.Format.meaning run.format).decode c.args.words.now in
-    let page = g.S.Weights.meaning c.args.sheet.now in
-    let size = length-map c.args.words.now (g.F.Format.meaning run.format).decode in
+    let page = g.S.Sheet.meaning c.args.sheet.now in
     let ok = (when_ok (fed_check s tile page) _ _ c.in_ok-check_tile.ensures).0 in
-    let same = midway_all s _ page tile c.loop-row.row c.loop-row.invariant.1 (omega (arith, size, c.loop-row-test.false)) ∙ changed s (fold add_row s (rows_of page 0 tile)) ok in
+    let cut = was_made (cut_check s.shared tile) (λ v. v.items ≡ map (aligned_number (step_size s)) tile) c.in_ok-cuts.cuts c.in_ok-cuts.ensures.made in
+    let items : c.deref-cut-items.result.now ≡ map (aligned_number (step_size s)) tile = c.deref-cut-items.ensures.0 ∙ cut.1 in
+    let all : length tile ≤ c.loop-row.row = omega (arith, ap length items, length-map tile (aligned_number (step_size s)), c.loop-row-test.false) in
+    let same = midway_all s _ page tile c.loop-row.row c.loop-row.invariant.1 all ∙ changed s (fold add_row s (rows_of page 0 tile)) ok in
     record { answers = accepted ok refl; format = c.loop-row.invariant.0; feeds = same; logs = logged_feed s _ tile page refl same }
