@@ -1,9 +1,9 @@
 -- Lists of calls, one call after the other.
-use Rattle.std.proofs.Common.{◌≡◌, ℕ, ◌+◌, ◌<◌, ◌≤◌, Bool, true, false, cond, List, [], ◌∷◌, ◌++◌, map, length, get_or, take, drop, Some, None, sym, refl, ap, ◌∙◌, arith}
+use Rattle.std.proofs.Common.{◌≡◌, ℕ, ◌+◌, ◌<◌, ◌≤◌, Bool, true, false, cond, List, [], ◌∷◌, ◌++◌, map, length, get_or, take, drop, Some, None, Option, sym, refl, ap, ◌∙◌, arith}
 use Rattle.std.proofs.lemmas.List.{drop_more, drop-map, drop_all, map_more}
 use Rattle.std.proofs.lemmas.Bool.{cond-true, cond-false}
 use Rattle.runs.specs.Log.{Log, Event, after}
-use Rattle.calls.specs.Lists.{allowed, aligned_after, misplaced, answer_to, answers_to, log_after}
+use Rattle.calls.specs.Lists.{allowed, aligned_after, leads, misplaced, answer_to, answers_to, log_after}
 
 -- ---- one list of events behind another
 pub log_append : (l : Log) (es fs : List Event) → log_after l (es ++ fs) ≡ log_after (log_after l es) fs
@@ -13,6 +13,21 @@ log_append l (e ∷ es) fs = log_append (after l e) es fs
 pub answers_append : (l : Log) (es fs : List Event) → answers_to l (es ++ fs) ≡ answers_to l es ++ answers_to (log_after l es) fs
 answers_append l [] fs = refl
 answers_append l (e ∷ es) fs = ap (λ given. answer_to l e ∷ given) (answers_append (after l e) es fs)
+
+-- ---- what a call leads to
+where_led : (b x y : Bool) → Some x ≡ cond b (Some y) None → (b ≡ true) × (x ≡ y)
+where_led true x y e = (refl, cc)
+where_led false x y e = let z : ◌≡◌ {A = ℕ} 0 1 = cc in absurd (omega arith)
+
+pub allowed_to : (aligned : Bool) (e : Event) (next : Bool) → Some next ≡ leads aligned e → (allowed aligned e ≡ true) × (next ≡ aligned_after e)
+allowed_to aligned e next led = where_led (allowed aligned e) next (aligned_after e) led
+
+where_kept : (b y : Bool) → ◌≡◌ {A = Option Bool} None (cond b (Some y) None) → b ≡ false
+where_kept true y e = let z : ◌≡◌ {A = ℕ} 0 1 = cc in absurd (omega arith)
+where_kept false y e = refl
+
+pub not_allowed : (aligned : Bool) (e : Event) → None ≡ leads aligned e → allowed aligned e ≡ false
+not_allowed aligned e led = where_kept (allowed aligned e) (aligned_after e) led
 
 -- ---- the next call of a list
 module _ {C : Type 0} (event : C → Event) (calls : List C) (i : ℕ) where

@@ -1,23 +1,23 @@
 -- A call is made as the log says.
-use Rattle.std.proofs.Common.{◌≡◌, ℕ, Bool, true, false, List, Some, None, Option, sym, refl, ap, ◌∙◌, subst, arith, Bor}
+use Rattle.std.proofs.Common.{◌≡◌, ℕ, Bool, true, false, List, Some, None, Ok, Err, Option, Result, sym, refl, ap, ◌∙◌, subst, arith, Bor}
+use Rattle.std.specs.Result.{MatchResult}
 use Rattle.refusals.specs.declared.Refusal.{Refusal}
-use Rattle.refusals.specs.Refusing.{verdict}
+use Rattle.refusals.specs.Refusing.{answer, verdict}
 use Rattle.formats.specs.Coding.{Coding}
 use Rattle.sheets.specs.Page.{Page}
 use Rattle.units.specs.Meaning.{Meaning}
 use Rattle.runs.specs.State.{State}
 use Rattle.runs.specs.Log.{Log, Event, Holds, Logged, refusal, after}
-use Rattle.calls.specs.declared.Answer.{Answer}
-use Rattle.calls.specs.declared.Answer.TheVariants.{Done}
 use Rattle.calls.specs.declared.Call.{Call}
 use Rattle.calls.specs.declared.Call.TheVariants.{Survey, Fix, Feed, Read, Clear}
 use Rattle.calls.specs.declared.Run.{Run}
-use Rattle.calls.specs.Lists.{allowed, aligned_after, answered}
-use Rattle.calls.specs.Work.{event_of, state_of, format_of, is_aligned, told, Follows}
+use Rattle.calls.specs.Lists.{Answer, allowed, aligned_after}
+use Rattle.calls.specs.Work.{event_of, state_of, format_of, is_aligned, Follows}
 
-pub told_verdict : (o : Option Refusal) → told (verdict o) ≡ answered o Done
-told_verdict None = refl
-told_verdict (Some e) = refl
+-- a call that has nothing to answer but what its checks gave
+pub mapped : (o : Option Refusal) (r : Result (Unit {0}) Refusal) (a : Answer) (P : Unit {0} → Type 0) → r ≡ verdict o → (P tt → a ≡ Ok None) → MatchResult r P (λ e. a ≡ Err e) → a ≡ answer o None
+mapped None r a P is done cases = done (subst (λ (x : Result (Unit {0}) Refusal). MatchResult x P (λ e. a ≡ Err e)) is cases)
+mapped (Some e) r a P is done cases = subst (λ (x : Result (Unit {0}) Refusal). MatchResult x P (λ e. a ≡ Err e)) is cases
 
 -- a false test is not true
 pub untrue : {X : Type 0} → ◌≡◌ {A = Bool} false true → X
@@ -44,5 +44,5 @@ module _ {F U W S : Type 0} (coding : F → Coding W) (meaning : U → Meaning) 
   makes_at self run given call out a p q m = subst (λ (r : Run F U). Makes r given out a) (sym p) (subst (λ (k : Call W S). Makes run k out a) (sym q) m)
 
 -- a call whose answer is that of its checks
-pub follows : (e : Event) (s t : State) (a : Answer) (o : Option Refusal) → a ≡ told (verdict o) → Logged e s t o → (l : Log) → Holds l s → (a ≡ answered (refusal l e) Done) × Holds (after l e) t
-follows e s t a o is logged l h = let k = logged l h in (is ∙ told_verdict o ∙ ap (λ x. answered x Done) (sym k.0), k.1)
+pub follows : (e : Event) (s t : State) (a : Answer) (o : Option Refusal) → a ≡ answer o None → Logged e s t o → (l : Log) → Holds l s → (a ≡ answer (refusal l e) None) × Holds (after l e) t
+follows e s t a o is logged l h = let k = logged l h in (is ∙ ap (λ x. answer x None) (sym k.0), k.1)

@@ -1,9 +1,9 @@
 -- Lists of calls: which of them a run allows, and what each answers by the log.
-use Rattle.std.specs.Prelude.{ℕ, ◌+◌, Bool, true, false, cond, not, List, [], ◌∷◌, Some, None, Option}
+use Rattle.std.specs.Prelude.{ℕ, ◌+◌, Bool, true, false, cond, not, List, [], ◌∷◌, Some, None, Ok, Option, Result}
 use Rattle.refusals.specs.declared.Refusal.{Refusal}
+use Rattle.refusals.specs.Refusing.{answer}
 use Rattle.runs.specs.Log.{Log, Event, survey, fix, feed, read, clear, refusal, after, reading_of}
-use Rattle.calls.specs.declared.Answer.{Answer}
-use Rattle.calls.specs.declared.Answer.TheVariants.{Done, Read, Refused}
+use Rattle.runs.specs.declared.Reading.{Reading}
 
 -- whether a run that is aligned, or not, allows a call: a surveying run is surveyed and fixed, an aligned one fed, read and cleared
 abbrev pub allowed : Bool → Event → Bool
@@ -21,23 +21,27 @@ aligned_after (feed words sheet) = true
 aligned_after (read column) = true
 aligned_after clear = false
 
+-- whether the run is aligned after a call, if it allows it
+abbrev pub leads : Bool → Event → Option Bool
+leads aligned e = cond (allowed aligned e) (Some (aligned_after e)) None
+
 -- the first call that the run's state would not allow, the calls being counted on from `place`
 abbrev pub misplaced : ℕ → Bool → List Event → Option ℕ
 misplaced place aligned [] = None
 misplaced place aligned (e ∷ es) = cond (allowed aligned e) (misplaced (place + 1) (aligned_after e) es) (Some place)
 
--- the refusal that a call's checks gave, or else its own answer
-abbrev pub answered : Option Refusal → Answer → Answer
-answered None own = own
-answered (Some refusal) own = Refused refusal
+-- what a call answers: a refusal, a reading, or that it is done
+abbrev pub Answer : Type 0
+Answer = Result (Option Reading) Refusal
 
--- what a call answers: an accepted read the reading of the terms accepted up to it, every other accepted call that it is done
+-- what a call answers by the log: its refusal, or else an accepted read the reading of the terms accepted up to it, every
+-- other accepted call nothing
 abbrev pub answer_to : Log → Event → Answer
-answer_to l (survey words) = answered (refusal l (survey words)) Done
-answer_to l fix = Done
-answer_to l (feed words sheet) = answered (refusal l (feed words sheet)) Done
-answer_to l (read column) = answered (refusal l (read column)) (Read (reading_of l column))
-answer_to l clear = Done
+answer_to l (survey words) = answer (refusal l (survey words)) None
+answer_to l fix = Ok None
+answer_to l (feed words sheet) = answer (refusal l (feed words sheet)) None
+answer_to l (read column) = answer (refusal l (read column)) (Some (reading_of l column))
+answer_to l clear = Ok None
 
 -- what the calls of a list answer, each by the log that the calls before it left
 abbrev pub answers_to : Log → List Event → List Answer

@@ -10,16 +10,16 @@ use Rattle.runs.specs.Checks.{setting}
 use Rattle.runs.specs.State.{State, reading}
 use Rattle.runs.specs.Log.{Log, Event, survey, fix, feed, read, clear, empty, after, Holds, Sound, Alike, ReadsAlike}
 use Rattle.runs.specs.Runs.{surveying, aligned}
-use Rattle.calls.specs.declared.Answer.{Answer}
-use Rattle.calls.specs.declared.Answer.TheVariants.{Done, Read, Refused}
 use Rattle.calls.specs.declared.Call.{Call}
 use Rattle.calls.specs.declared.Call.TheVariants as call
 use Rattle.calls.specs.declared.Run.{Run}
 use Rattle.calls.specs.declared.Run.TheVariants as run
 use Rattle.calls.specs.declared.Opening.{Opening}
-use Rattle.calls.specs.declared.Misplaced.{Misplaced}
+use Rattle.calls.specs.declared.error.Misplaced.{Misplaced}
+use Rattle.calls.specs.declared.error.WorkError.{WorkError}
+use Rattle.calls.specs.declared.error.WorkError.TheVariants as error
 use Rattle.calls.specs.declared.Worked.{Worked}
-use Rattle.calls.specs.Lists.{misplaced, answer_to, answers_to, log_after}
+use Rattle.calls.specs.Lists.{Answer, misplaced, answer_to, answers_to, log_after}
 
 -- a call of the code as an event: its words decoded by the format, its sheet by what it means
 abbrev pub event_of : {W S : Type 0} → Coding W → (S → Page) → Call W S → Event
@@ -49,16 +49,6 @@ abbrev pub placed : Option ℕ → Result (Unit {0}) Misplaced
 placed None = Ok tt
 placed (Some place) = Err (record { call = place })
 
--- the answer that a call's result stands for
-abbrev pub told : Result (Unit {0}) Refusal → Answer
-told (Ok x) = Done
-told (Err refusal) = Refused refusal
-
--- the same of a read
-abbrev pub told_reading : Result Reading Refusal → Answer
-told_reading (Ok reading) = Read reading
-told_reading (Err refusal) = Refused refusal
-
 -- A call found a run at s, answered a, and left it at t: whatever log the run had, the answer is the log's, and the run goes
 -- on with the log after the call.
 abbrev pub Follows : Event → State → Answer → State → Type 0
@@ -81,19 +71,21 @@ opened_log coding meaning o = empty (setting (coding o.format).least o.extra.bit
 abbrev pub events_of : {F U W S : Type 0} → (F → Coding W) → (S → Page) → Opening F U → List (Call W S) → List Event
 events_of coding page o calls = map (event_of (coding o.format) page) calls
 
--- by whether a call is misplaced: the list is not worked, or it is
-abbrev pub WorkBy : {F U W : Type 0} → (F → Coding W) → (U → Meaning) → Log → List Event → Option ℕ → Result (Worked F U) Misplaced → Type 0
+-- by whether a call is misplaced: that is told and nothing is worked, or the list is worked unless memory runs out
+abbrev pub WorkBy : {F U W : Type 0} → (F → Coding W) → (U → Meaning) → Log → List Event → Option ℕ → Result (Worked F U) WorkError → Type 0
 WorkBy coding meaning before events None (Ok w) = WorkedAs before events (vec_items w.answers) (state_of coding meaning w.run)
-WorkBy coding meaning before events None (Err m) = ⊥
+WorkBy coding meaning before events None (Err (error.Misplaced m)) = ⊥
+WorkBy coding meaning before events None (Err (error.Memory e)) = Unit {0}
 WorkBy coding meaning before events (Some place) (Ok w) = ⊥
-WorkBy coding meaning before events (Some place) (Err m) = m.call ≡ place
+WorkBy coding meaning before events (Some place) (Err (error.Misplaced m)) = m.call ≡ place
+WorkBy coding meaning before events (Some place) (Err (error.Memory e)) = ⊥
 
 -- what working a list gives on a run that is opened for it: where a call is misplaced, its place, and nothing is worked
-abbrev pub WorkOf : {F U W S : Type 0} → (F → Coding W) → (U → Meaning) → (S → Page) → Opening F U → List (Call W S) → Result (Worked F U) Misplaced → Type 0
+abbrev pub WorkOf : {F U W S : Type 0} → (F → Coding W) → (U → Meaning) → (S → Page) → Opening F U → List (Call W S) → Result (Worked F U) WorkError → Type 0
 WorkOf coding meaning page o calls r = WorkBy coding meaning (opened_log coding meaning o) (events_of coding page o calls) (misplaced 0 false (events_of coding page o calls)) r
 
 -- where two lists were worked: in a column of each that have one step and the same terms, each as often, the runs read alike
-abbrev pub AlikeWhereWorked : {F U W G V X : Type 0} → (F → Coding W) → (U → Meaning) → (G → Coding X) → (V → Meaning) → Log → Log → Result (Worked F U) Misplaced → Result (Worked G V) Misplaced → Type 0
+abbrev pub AlikeWhereWorked : {F U W G V X : Type 0} → (F → Coding W) → (U → Meaning) → (G → Coding X) → (V → Meaning) → Log → Log → Result (Worked F U) WorkError → Result (Worked G V) WorkError → Type 0
 AlikeWhereWorked f u g v l m (Ok a) (Ok b) = (c d : ℕ) → Alike l m c d → reading (state_of f u a.run) c ≡ reading (state_of g v b.run) d
 AlikeWhereWorked f u g v l m (Ok a) (Err e) = Unit {0}
 AlikeWhereWorked f u g v l m (Err e) b = Unit {0}

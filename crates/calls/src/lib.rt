@@ -1,9 +1,12 @@
 // Lists of calls, worked in turn on a run that was just opened.
 #![tactic(auto)]
 
+mod error;
+mod places;
 mod working;
 
 use alignment::ExtraBits;
+pub use error::{Misplaced, WorkError};
 use refusals::Refusal;
 use runs::{AlignedRun, Reading, SurveyingRun};
 pub use working::{work, work_both};
@@ -26,25 +29,14 @@ pub enum Call<'a, W, S> {
     Clear,
 }
 
-// What a call answered.
-#[derive(Clone, Copy)]
-pub enum Answer {
-    Done,
-    Read(Reading),
-    Refused(Refusal),
-}
+// What a call answered: an accepted read its reading, every other accepted call nothing.
+pub type Answer = Result<Option<Reading>, Refusal>;
 
 // A run in either of its states.
 #[derive(Drop)]
 pub enum Run<F, U> {
     Surveying(SurveyingRun<F, U>),
     Aligned(AlignedRun<F, U>),
-}
-
-// The place in a list, from 0, of the first call that the run's state would not allow.
-#[derive(Clone, Copy)]
-pub struct Misplaced {
-    pub call: usize,
 }
 
 // A run after a list of calls, and what each of them answered.

@@ -1,34 +1,27 @@
 use Rattle.std.proofs.Common.{◌≡◌, ◌+◌, false, List, [], ◌∷◌, ◌++◌, map, take, drop, sym, refl, ap, ◌∙◌, subst}
 use Rattle.std.proofs.lemmas.List.{take_all}
 use Rattle.std.proofs.lemmas.Slice.{pushed}
+use Rattle.std.proofs.lemmas.Result.{err_from_is_err_and}
 use Rattle.runs.specs.Log.{Log, Event, Holds, after}
 use Rattle.calls.specs.Lists.{misplaced, allowed, aligned_after, answer_to, answers_to, log_after}
 use Rattle.calls.specs.Work.{event_of, events_of, state_of, format_of, is_aligned, opened_log}
 use Rattle.calls.proofs.Lists.{misplaced_parts, log_more, answers_more}
-use Rattle.calls.proofs.Results.{well_placed, kept_out, worked}
+use Rattle.calls.proofs.Results.{well_placed, kept_out, out_of_memory, worked}
 use Rattle.calls.proofs.working.work.Goals as goal
-
-pub returns-in-Err : goal.returns-in-Err
-returns-in-Err g c =
-    let page = g.S.Weights.meaning in
-    let opening = c.args.opening in
-    let events = events_of g.F.Format.meaning page opening c.args.calls.now in
-    kept_out g.F.Format.meaning g.U.Unit.meaning (opened_log g.F.Format.meaning g.U.Unit.meaning opening) events (misplaced 0 false events) c.in-Err.misplaced
-    (sym c.in-Err.is ∙ c.check_places.ensures (g.F.Format.meaning opening.format) page)
 
 pub loop-call-init : goal.loop-call-init
 loop-call-init g c =
-    let page = g.S.Weights.meaning in
+    let page = g.S.Sheet.meaning in
     let coding = g.F.Format.meaning (format_of c.open-run.result) in
     let events = map (event_of coding page) c.args.calls.now in (
       refl,
-      ap (λ b. misplaced 0 b events) c.open-run.ensures.stage ∙ well_placed _ (sym c.in_default.is ∙ c.check_places.ensures coding page),
+      ap (λ b. misplaced 0 b events) c.open-run.ensures.stage ∙ well_placed _ (c.in_ok-check_places.ensures coding page),
       λ m h. (c.new-answers.ensures.items, h),
     )
 
 pub make-next-requires : goal.make-next-requires
 make-next-requires g c =
-    let page = g.S.Weights.meaning in
+    let page = g.S.Sheet.meaning in
     let call = c.call-item.result in
     let event = event_of (g.F.Format.meaning (format_of c.open-run.result)) page in
     ap (λ f. allowed (is_aligned c.loop-call.run) (event_of (g.F.Format.meaning f) page call)) c.loop-call.invariant.0
@@ -36,7 +29,7 @@ make-next-requires g c =
 
 pub loop-call-preserved : goal.loop-call-preserved
 loop-call-preserved g c =
-    let page = g.S.Weights.meaning in
+    let page = g.S.Sheet.meaning in
     let calls = c.args.calls.now in
     let call = c.call-item.result in
     let i = c.loop-call.call-index in
@@ -61,7 +54,7 @@ loop-call-preserved g c =
 
 pub returns : goal.returns
 returns g c =
-    let page = g.S.Weights.meaning in
+    let page = g.S.Sheet.meaning in
     let opening = c.args.opening in
     let calls = c.args.calls.now in
     let i = c.loop-call.call-index in
@@ -72,6 +65,24 @@ returns g c =
     ∙ ap (map (event_of (g.F.Format.meaning opening.format) page)) (take_all i calls c.loop-call-test.false) in
     let end = c.loop-call.invariant.2 before c.open-run.ensures.logs in
     worked g.F.Format.meaning g.U.Unit.meaning before events (misplaced 0 false events) _
-    (well_placed _ (sym c.in_default.is ∙ c.check_places.ensures (g.F.Format.meaning opening.format) page))
+    (well_placed _ (c.in_ok-check_places.ensures (g.F.Format.meaning opening.format) page))
     (end.0 ∙ ap (answers_to before) all)
     (subst (λ (es : List Event). Holds (log_after before es) (state_of g.F.Format.meaning g.U.Unit.meaning c.loop-call.run)) all end.1)
+
+pub returns-in_err-check_places : goal.returns-in_err-check_places
+returns-in_err-check_places g c =
+    let page = g.S.Sheet.meaning in
+    let opening = c.args.opening in
+    let events = events_of g.F.Format.meaning page opening c.args.calls.now in
+    let p = err_from_is_err_and c.from_residual.result c.from_residual.ensures.1 in
+    rw (p.1, p.2)
+    (kept_out g.F.Format.meaning g.U.Unit.meaning (opened_log g.F.Format.meaning g.U.Unit.meaning opening) events (misplaced 0 false events) _ (c.in_err-check_places.ensures (g.F.Format.meaning opening.format) page))
+
+pub returns-in_err-push : goal.returns-in_err-push
+returns-in_err-push g c =
+    let page = g.S.Sheet.meaning in
+    let opening = c.args.opening in
+    let events = events_of g.F.Format.meaning page opening c.args.calls.now in
+    let p = err_from_is_err_and c.from_residual-in_err-push.result c.from_residual-in_err-push.ensures.1 in
+    rw (p.1, p.2)
+    (out_of_memory g.F.Format.meaning g.U.Unit.meaning (opened_log g.F.Format.meaning g.U.Unit.meaning opening) events (misplaced 0 false events) _ (well_placed _ (c.in_ok-check_places.ensures (g.F.Format.meaning opening.format) page)))

@@ -8,7 +8,7 @@ use Rattle.calls.proofs.working.work.Given as goal
 -- the run holds the log after them
 abbrev pub invariant-loop-call : goal.invariant-loop-call
 invariant-loop-call g l =
-    let event = event_of (g.F.Format.meaning (format_of l.initial.run)) g.S.Weights.meaning in
+    let event = event_of (g.F.Format.meaning (format_of l.initial.run)) g.S.Sheet.meaning in
     let past = map event (take l.call-index l.calls) in
     (format_of l.run ≡ format_of l.initial.run)
     × (misplaced l.call-index (is_aligned l.run) (drop l.call-index (map event l.calls)) ≡ None)

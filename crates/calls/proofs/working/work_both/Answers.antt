@@ -6,13 +6,13 @@ use Rattle.calls.proofs.working.work_both.Goals as goal
 
 pub returns : goal.returns
 returns g c =
-    let left = c.in_ok-first.ensures in
-    let right = c.in_ok-second.ensures in
-    let events = events_of g.F.Format.meaning g.S.Weights.meaning c.args.left c.args.left_calls.now in
-    let others = events_of g.G.Format.meaning g.R.Weights.meaning c.args.right c.args.right_calls.now in
+    let left = c.work.ensures in
+    let right = c.work-2.ensures in
+    let events = events_of g.F.Format.meaning g.S.Sheet.meaning c.args.left c.args.left_calls.now in
+    let others = events_of g.G.Format.meaning g.R.Sheet.meaning c.args.right c.args.right_calls.now in
     record {
       left = left;
       right = right;
       alike = both_alike g.F.Format.meaning g.U.Unit.meaning g.G.Format.meaning g.V.Unit.meaning (opened_log g.F.Format.meaning g.U.Unit.meaning c.args.left) (opened_log g.G.Format.meaning g.V.Unit.meaning c.args.right) events others
-          (misplaced 0 false events) (misplaced 0 false others) c.in_ok-first.first c.in_ok-second.second left right;
+          (misplaced 0 false events) (misplaced 0 false others) c.work.result c.work-2.result left right;
     }
