@@ -12,7 +12,7 @@ use refusals::Refusal;
 use std::fmt;
 
 // What heads the listing of an accepted job.
-#[derive(Clone, Copy)]
+#[derive(Clone, Copy, Debug, PartialEq, Eq)]
 pub struct Header {
     pub rows: u16,
     pub shared: i32,
@@ -23,15 +23,16 @@ impl fmt::Display for Header {
     ghost output = { λ h. Some (header_text h) };
 
     fn fmt<W: fmt::Write>(&self, f: &mut fmt::Formatter<W>) -> fmt::Result {
-        let rows = self.rows;
-        let shared = self.shared;
-        let extra = self.extra;
-        write!(f, "rows {rows} shared {shared} extra {extra}\n")
+        writeln!(
+            f,
+            "rows {} shared {} extra {}",
+            self.rows, self.shared, self.extra
+        )
     }
 }
 
 // What is read of a column: its total, its slack, and the result word.
-#[derive(Clone, Copy)]
+#[derive(Clone, Copy, Debug, PartialEq, Eq)]
 pub struct Line {
     pub column: u8,
     pub total: i64,
@@ -43,16 +44,13 @@ impl fmt::Display for Line {
     ghost output = { λ l. Some (line_text l) };
 
     fn fmt<W: fmt::Write>(&self, f: &mut fmt::Formatter<W>) -> fmt::Result {
-        let column = self.column;
-        let total = self.total;
-        let slack = self.slack;
         let word = Hex(self.word);
-        write!(f, "{column} {total} {slack} {word}\n")
+        writeln!(f, "{} {} {} {word}", self.column, self.total, self.slack)
     }
 }
 
 // What is printed of an accepted job.
-#[derive(Drop)]
+#[derive(Debug, Drop)]
 pub struct Listing {
     pub header: Header,
     pub lines: Vec<Line>,
@@ -62,9 +60,8 @@ impl fmt::Display for Listing {
     ghost output = { λ l. Some (listing_text l.header l.lines.items) };
 
     fn fmt<W: fmt::Write>(&self, f: &mut fmt::Formatter<W>) -> fmt::Result {
-        let header = self.header;
-        write!(f, "{header}")?;
-        for line in self.lines.as_slice() {
+        write!(f, "{}", self.header)?;
+        for line in &self.lines {
             write!(f, "{line}")?;
         }
         Ok(())
@@ -72,14 +69,13 @@ impl fmt::Display for Listing {
 }
 
 // What is printed of a refused job.
-#[derive(Clone, Copy)]
+#[derive(Clone, Copy, Debug, PartialEq, Eq)]
 pub struct Refused(pub Refusal);
 
 impl fmt::Display for Refused {
     ghost output = { λ r. Some (refused_text r.0) };
 
     fn fmt<W: fmt::Write>(&self, f: &mut fmt::Formatter<W>) -> fmt::Result {
-        let number = self.0.number();
-        write!(f, "refused {number}\n")
+        writeln!(f, "refused {}", self.0.number())
     }
 }
