@@ -1,5 +1,5 @@
 -- The word of a rounded fraction: the exponent's field and the significand are the digits that `round` drops and keeps, side by side.
-use Rattle.std.proofs.Common.{◌≡◌, ℕ, zero, suc, ◌+◌, ◌-◌, ◌*◌, ◌/◌, ◌%◌, ◌^◌, ◌<◌, ◌≤◌, min, Bool, true, false, cond, not, T, ltb, ℤ, pos, sym, refl, ap, ◌∙◌, subst, inl, inr, le_trans, le_of_eq, mul-le-mul_right, eq-or-lt_of_le, le-div_iff_mul-le, mul-one, not-le_of_lt, mul-div_cancel, arith, ltb→lt, nltb→le, pow_pos, pow-add, shl_lt}
+use Rattle.std.proofs.Common.{◌≡◌, ℕ, zero, suc, ◌+◌, ◌-◌, ◌*◌, ◌/◌, ◌%◌, ◌^◌, ◌<◌, ◌≤◌, min, Bool, true, false, cond, not, T, ltb, ℤ, pos, sym, refl, ap, ◌∙◌, subst, inl, inr, le_trans, le_of_eq, mul-le-mul_right, eq-or-lt_of_le, le-div_iff_mul-le, mul-one, mul-div_cancel, arith, ltb→lt, nltb→le, pow_pos, pow-add, shl_lt}
 use Prim.Native.Nat.{compare}
 use native.Mathlib.Nat.{div-div-eq-div-mul}
 use lib.Pow.{pow-lt}
@@ -16,6 +16,10 @@ use Rattle.rounding.proofs.Digits.{size_gt, size_is}
 pub record Significand (q k : ℕ) : Type 0 where
   pub high : q ≤ 2 ^ 24
   pub low : 0 < k → 2 ^ 23 ≤ q
+
+-- with fewer digits the last one stands for the smallest value
+pub lowest_place : (q k : ℕ) → Significand q k → q < 2 ^ 23 → k ≡ 0
+lowest_place q k h few = grind (arith, h.low)
 
 abbrev pub sign_bit : Bool → ℕ
 sign_bit s = cond s (2 ^ 31) 0
@@ -92,13 +96,10 @@ written : (q k : ℕ) → Significand q k → Written q k
 written q k h = elim (eq-or-lt_of_le h.high) [
   | inl e ↦ carried q k e
   | inr l ↦ elim (cases_lt q (2 ^ 23)) [
-    | inl m ↦ subnormal q k (none k (λ p. not-le_of_lt m (h.low p))) m
+    | inl m ↦ subnormal q k (lowest_place q k h m) m
     | inr g ↦ normal q k g l
   ]
 ]
-  where
-    none : (k : ℕ) → (0 < k → ⊥) → k ≡ 0
-    none k h = omega arith
 
 to_bits_units : (s : Bool) (q k : ℕ) → Significand q k → to_bits binary32 (units binary32 s q k) ≡ sign_bit s + min (k * 2 ^ 23 + q) 0x7F80_0000
 unfolding units

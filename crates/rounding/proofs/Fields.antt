@@ -1,5 +1,5 @@
 -- The fields of a word, and the number that they decode to.
-use Rattle.std.proofs.Common.{◌≡◌, ℕ, zero, suc, ◌+◌, ◌-◌, ◌*◌, ◌/◌, ◌%◌, ◌^◌, ◌<◌, ◌≤◌, Bool, true, false, cond, eqb, ℤ, pos, negsuc, ◌+ℤ◌, neg_ℤ, nat_abs, ◌≤ℤ◌, Some, None, sym, refl, ap, ◌∙◌, subst, ap₂, inl, inr, lt_of_le_of_lt, lt_irrefl, mod-lt, mul_assoc, add-sub_of_le, mul-le-mul, eq-or-lt_of_le, not-le_of_lt, arith, lit<, pow_pos, pow_mono, pow-add}
+use Rattle.std.proofs.Common.{◌≡◌, ℕ, zero, suc, ◌+◌, ◌-◌, ◌*◌, ◌/◌, ◌%◌, ◌^◌, ◌<◌, ◌≤◌, Bool, true, false, cond, eqb, ℤ, pos, negsuc, ◌+ℤ◌, neg_ℤ, nat_abs, ◌≤ℤ◌, Some, None, sym, refl, ap, ◌∙◌, subst, ap₂, inl, inr, lt_of_le_of_lt, lt_irrefl, mod-lt, mul_assoc, add-sub_of_le, mul-le-mul, eq-or-lt_of_le, arith, lit<, pow_pos, pow_mono, pow-add}
 use borrow.Author.Differences.{ints}
 use borrow.Author.Differences as parts
 use lib.Dec.{eqb-suc-zero}
@@ -8,7 +8,7 @@ use Rattle.std.proofs.lemmas.Bool.{cases_lt, cond-false, eqb-false, ne_eqb}
 use Rattle.formats.specs.Coding.{Decoded}
 use Rattle.formats.specs.Interchange.{fraction, field, sign, exponent, number}
 use Rattle.rounding.specs.Nearest.{Decodes, amount, too_large}
-use Rattle.rounding.proofs.Bits.{Significand, sign_bit}
+use Rattle.rounding.proofs.Bits.{Significand, lowest_place, sign_bit}
 use Rattle.rounding.proofs.Rounded.{up_is, down_is}
 
 abbrev pub Finite : ℕ → Type 0
@@ -129,16 +129,13 @@ reads s q k h under =
           }
       | inr l ↦ elim (cases_lt q (2 ^ 23)) [
         | inl low ↦
-            let z : k ≡ 0 = none k (λ p. not-le_of_lt low (h.low p)) in
+            let z : k ≡ 0 = lowest_place q k h low in
             subst (λ (x : ℕ). Reads (sign_bit s + w) q x) (sym z) (reads_low (sign_bit s + w) q (fields s w 0 q (omega arith) (omega arith) low))
         | inr lead ↦
             subst (λ (x : ℕ). Reads (sign_bit s + w) x k) (add-sub_of_le lead)
             (reads_high (sign_bit s + w) k (q - 2 ^ 23) (omega arith) (fields s w (suc k) (q - 2 ^ 23) (omega arith) (omega arith) (omega arith)))
       ]
     ]
-  where
-    none : (k : ℕ) → (0 < k → ⊥) → k ≡ 0
-    none k h = omega arith
 
 -- ---- any word
 pub significand_lt : (w : ℕ) → significand_of w < 2 ^ 24

@@ -62,6 +62,12 @@ module _ (n den : ℕ) (some : 0 < den) where
             omega arith
       ]
 
+  -- m over at least as large a power of two is a multiple of u
+  multiple : (m x : ℕ) → k ≤ x → m * 2 ^ x * den ≡ m * 2 ^ (x - k) * u
+  multiple m x above =
+      let split : x ≡ x - k + k = omega arith in
+      ap (λ (y : ℕ). m * 2 ^ y * den) split ∙ ap (λ (y : ℕ). m * y * den) (pow-add 2 (x - k) k) ∙ simp (mul_assoc, mul_comm, mul_left_comm)
+
   -- ---- a word w is a multiple of u, or stands below the least one that has 24 digits
   data Grid (w : ℕ) : Type 0 where
     on : (c : ℕ) → amount_of w * den ≡ c * u → Grid w
@@ -80,8 +86,7 @@ module _ (n den : ℕ) (some : 0 < den) where
             (lt_of_lt_of_le (mul-lt-mul_of_pos_right below some) (le_of_eq (mul_assoc (2 ^ 23) (2 ^ k) den ∙ ap (λ (y : ℕ). 2 ^ 23 * y) (mul_comm (2 ^ k) den))))
             ((le-div_iff_mul-le some_u).0 (kept_leading n den (omega arith)))
         | inr g ↦
-            let split : x ≡ x - k + k = omega arith in
-            on (m * 2 ^ (x - k)) (ap (λ (y : ℕ). m * 2 ^ y * den) split ∙ ap (λ (y : ℕ). m * y * den) (pow-add 2 (x - k) k) ∙ simp (mul_assoc, mul_comm, mul_left_comm))
+            on (m * 2 ^ (x - k)) (multiple m x g)
       ]
 
   least : (w : ℕ) → distance (q * u) n ≤ distance (amount_of w * den) n
@@ -101,9 +106,7 @@ module _ (n den : ℕ) (some : 0 < den) where
   whole m x digits is =
       let all : n / den ≡ m * 2 ^ x = ap (λ (y : ℕ). y / den) (sym is) ∙ mul-div_cancel (m * 2 ^ x) some in
       let short : size (n / den) ≤ 24 + x = size-le (n / den) (24 + x) (subst (λ (y : ℕ). y < 2 ^ (24 + x)) (sym all) (shl_lt 24 x digits)) in
-      let split : x ≡ x - k + k = omega arith in
-      let multiple : m * 2 ^ (x - k) * u ≡ n =
-      sym (ap (λ (y : ℕ). m * 2 ^ y * den) split ∙ ap (λ (y : ℕ). m * y * den) (pow-add 2 (x - k) k) ∙ simp (mul_assoc, mul_comm, mul_left_comm)) ∙ is in
+      let same : m * 2 ^ (x - k) * u ≡ n = sym (multiple m x (omega arith)) ∙ is in
       let near = closest_least n u (m * 2 ^ (x - k)) some_u in
       omega arith
 

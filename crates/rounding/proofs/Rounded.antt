@@ -1,5 +1,5 @@
 -- A whole number times a power of two, rounded: what is dropped and kept follows from the place of the number's highest one bit.
-use Rattle.std.proofs.Common.{◌≡◌, ℕ, suc, ◌+◌, ◌-◌, ◌*◌, ◌/◌, ◌%◌, ◌^◌, ◌<◌, ◌≤◌, min, true, false, ℤ, pos, negsuc, ◌+ℤ◌, ◌-ℤ◌, neg_ℤ, nat_abs, ◌≤ℤ◌, ◌<ℤ◌, sym, refl, ap, ◌∙◌, ap₂, le_trans, le_of_eq, lt_of_lt_of_le, mod-eq_of_lt, zero-lt-suc, mul_assoc, mul_comm, mul-pos, one-mul, zero-mul, mul-one, div-one, mul_left_comm, arith, pow_pos, pow_mono, pow-add, shl_lt, shr_lt}
+use Rattle.std.proofs.Common.{◌≡◌, ℕ, suc, ◌+◌, ◌-◌, ◌*◌, ◌/◌, ◌%◌, ◌^◌, ◌<◌, ◌≤◌, min, true, false, ℤ, pos, negsuc, ◌+ℤ◌, ◌-ℤ◌, neg_ℤ, nat_abs, ◌≤ℤ◌, ◌<ℤ◌, sym, refl, ap, ◌∙◌, ap₂, le_trans, le_of_eq, lt_of_lt_of_le, zero-lt-suc, mul_assoc, mul_comm, mul-pos, one-mul, zero-mul, mul-one, div-one, mul_left_comm, arith, pow_pos, pow_mono, pow-add, shl_lt, shr_lt}
 use Prim.Native.Nat.{compare}
 use native.Mathlib.Nat.{mod-one}
 use borrow.Author.Differences.{ints}
@@ -12,6 +12,7 @@ use lib.Ieee.Nearest.{closest, closest_same, closest_mono}
 use lib.Ieee.Order.{drop, kept}
 use lib.Ieee.Scale.{round_same}
 use Rattle.std.proofs.lemmas.Int.{clamps}
+use Rattle.std.proofs.lemmas.Nat.{shl_whole}
 use Rattle.rounding.specs.Word.{last_place, unsigned_word, nearest_whole, nearest_word}
 use Rattle.rounding.proofs.Digits.{size_moved}
 use Rattle.rounding.proofs.Bits.{round_word}
@@ -39,7 +40,7 @@ scaled_down n (negsuc p) h = ap (λ (x : ℕ). nearest_whole x (2 ^ suc p)) (sym
 
 pub scaled_up : (n : ℕ) (power : ℤ) → pos 0 ≤ℤ power → (pos (size n) +ℤ power) ≤ℤ pos 24 → n * 2 ^ nat_abs power % 2 ^ 64 ≡ nearest_whole (n * up power) (down power)
 scaled_up n (pos p) h room =
-    mod-eq_of_lt (lt_of_lt_of_le (shl_lt (size n) p (size-lt n)) (pow_mono {i = size n + p} {j = 64} (omega (arith, ints)))) ∙ sym (closest_one (n * 2 ^ p))
+    shl_whole n (size n) p 64 (size-lt n) (omega (arith, ints)) ∙ sym (closest_one (n * 2 ^ p))
 scaled_up n (negsuc p) h room = absurd (omega (arith, ints))
 
 closest_high : (n t r : ℕ) → size n + t ≤ 24 + r → closest (n * 2 ^ t) (2 ^ r) ≤ 2 ^ 24

@@ -8,6 +8,8 @@ ghost use Rattle.std.specs.Int.{w32};
 ghost use Rattle.rounding.specs.Nearest.{GivenBack, Nearest, Only};
 ghost use Rattle.rounding.specs.Word.{last_place, nearest_whole, nearest_word, rounded, unsigned_word};
 
+use std::cmp::Ordering;
+
 // A significand has so many binary digits, the leading one counted.
 const PRECISION: i64 = 24;
 // A word writes so many of them: the leading one follows from the exponent's field.
@@ -55,7 +57,7 @@ fn last_place(magnitude: u64, step: i64) -> i64
     requires { (0 < magnitude) × (FitsSigned w32 step) }
     ensures { result ≡ last_place magnitude step }
 {
-    let digits = 64 - i64::from(magnitude.leading_zeros());
+    let digits = i64::from(u64::BITS - magnitude.leading_zeros());
     (step + digits - PRECISION).max(LOWEST)
 }
 
@@ -86,12 +88,10 @@ fn nearest_quotient(n: u64, places: u64) -> u64
     let whole = n / unit;
     // Twice the rest is held against the unit, so that nothing is halved.
     let doubled = n % unit * 2;
-    if doubled < unit {
-        whole
-    } else if doubled == unit {
-        whole + whole % 2
-    } else {
-        whole + 1
+    match doubled.cmp(&unit) {
+        Ordering::Less => whole,
+        Ordering::Equal => whole + whole % 2,
+        Ordering::Greater => whole + 1,
     }
 }
 
