@@ -8,28 +8,19 @@ mod tests {
     use formats::{Binary16, Binary32};
     use layers::{Drain, Odd};
     use planes::Plane;
+    use runs::Reading;
     use sheets::{ByteSheet, NibbleSheet};
-    use std::process::Abort;
     use std::test::Fail;
     use units::Multiplier;
 
-    fn check_last(
-        rt: &impl Abort,
-        answers: &[Answer],
-        total: i64,
-        slack: u32,
-        exponent: i32,
-        word: u32,
-    ) -> Result<(), Fail> {
-        let Some(Ok(Some(reading))) = answers.last() else {
-            assert!(rt; false);
-            return Ok(());
-        };
-        assert_eq!(rt; reading.total, total);
-        assert_eq!(rt; reading.slack, slack);
-        assert_eq!(rt; reading.exponent, exponent);
-        assert_eq!(rt; reading.word, word);
-        Ok(())
+    // What a list answers that ends with an accepted read of these figures.
+    fn last_read(total: i64, slack: u32, exponent: i32, word: u32) -> Option<Answer> {
+        Some(Ok(Some(Reading {
+            total,
+            slack,
+            exponent,
+            word,
+        })))
     }
 
     #[test]
@@ -47,11 +38,10 @@ mod tests {
             unit: Drain::new(Multiplier::new(1)?),
             extra: ExtraBits::new(0)?,
         };
-        let Ok(worked) = work(rt.alloc(), opening, &calls) else {
-            assert!(rt; false);
-            return Ok(());
-        };
-        check_last(&rt, worked.answers.as_slice(), 1021, 3, -10, 0x3F7F_4000)
+        let worked = work(rt.alloc(), opening, &calls)?;
+        let last = worked.answers.last().copied();
+        assert_eq!(rt; last, last_read(1021, 3, -10, 0x3F7F_4000));
+        Ok(())
     }
 
     // 1, 2 and 2^-24 with weights 3, -1 and 2, at a step of 2^-21: the last word is lost. The runs differ in format, unit,
@@ -85,23 +75,11 @@ mod tests {
             extra: ExtraBits::new(0)?,
         };
         let (left, right) = work_both(rt.alloc(), left, &left_calls, right, &right_calls);
-        let Ok(left) = left else {
-            assert!(rt; false);
-            return Ok(());
-        };
-        let Ok(right) = right else {
-            assert!(rt; false);
-            return Ok(());
-        };
-        check_last(&rt, left.answers.as_slice(), 2_097_152, 2, -21, 0x3F80_0000)?;
-        check_last(
-            &rt,
-            right.answers.as_slice(),
-            2_097_152,
-            2,
-            -21,
-            0x3F80_0000,
-        )
+        let (left, right) = (left?, right?);
+        let same = last_read(2_097_152, 2, -21, 0x3F80_0000);
+        assert_eq!(rt; left.answers.last().copied(), same);
+        assert_eq!(rt; right.answers.last().copied(), same);
+        Ok(())
     }
 
     // An aligned run is not surveyed: the list is kept out, and the call named.

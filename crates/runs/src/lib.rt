@@ -37,7 +37,7 @@ pub struct AlignedRun<F, U> {
 }
 
 // What a column reads: its total and its slack in steps of 2^exponent, and total × step as a binary32 word.
-#[derive(Clone, Copy)]
+#[derive(Clone, Copy, PartialEq, Eq, Debug)]
 pub struct Reading {
     pub total: i64,
     pub slack: u32,
