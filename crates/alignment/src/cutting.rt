@@ -10,7 +10,8 @@ use arrayvec::ArrayVec;
 use formats::Format;
 use refusals::Refusal;
 
-// A whole number of steps, and whether cutting lost a part of a step.
+// A whole number of steps, and whether cutting lost a part of a step. The number counts whether or not, so no enum of two
+// cases holds it.
 #[derive(Clone, Copy, Debug, PartialEq, Eq, Default)]
 pub struct Aligned {
     pub number: i64,

@@ -19,7 +19,8 @@ pub struct Opening<F, U> {
     pub extra: ExtraBits,
 }
 
-// A call that a run can be given, over lent words and a sheet.
+// A call that a run can be given, over lent words and a sheet. Calls are data and not closures, so that a list is checked
+// before any of them is made.
 #[derive(Clone, Copy)]
 pub enum Call<'a, W, S> {
     Survey(&'a [W]),

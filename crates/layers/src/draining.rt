@@ -13,7 +13,7 @@ const LIMIT: u32 = 65_536;
 #[derive(Drop)]
 pub struct Drain<U: Unit> {
     below: U,
-    // What was moved up: the rows, and a sum for each column.
+    // What was moved up: the rows, and a sum for each column, in room for all that a unit may have.
     rows: u32,
     sums: [i64; MOST_COLUMNS],
     ghost wide: { length sums ≡ 16 },

@@ -24,6 +24,7 @@ pub struct Odd<U: Unit> {
 fn double(row: Row<'_>, doubled: &mut [i16; MOST_COLUMNS])
     ensures { take (length row.entry.weights.now) doubled.new ≡ map odd_of row.entry.weights.now }
 {
+    // By column: of `iter_mut` zipped with the weights a proof would know no element.
     for (column, weight) in row.weights.iter().enumerate() {
         doubled[column] = 2 * *weight + 1;
     }

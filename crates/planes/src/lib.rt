@@ -19,7 +19,7 @@ const LIMIT: u32 = 64;
 pub struct Plane {
     columns: Columns,
     rows: u32,
-    // The first `columns` of these are in use.
+    // The first `columns` of these are in use. A vector of fixed room would be filled by a loop when made and cleared.
     sums: [[i64; 8]; MOST_COLUMNS],
     ghost wide: { length sums ≡ 16 },
     ghost eights: { Eights sums },
@@ -75,6 +75,7 @@ fn add_row(sums: &mut [[i64; 8]; MOST_COLUMNS], row: Row<'_>)
     requires { EachBounded (64 * 2 ^ 36) sums.old }
     ensures { sums.new ≡ spread sums.old row.entry.number.value row.entry.weights.now }
 {
+    // By column: of `iter_mut` zipped with the weights a proof would know no element.
     for (column, weight) in row.weights.iter().enumerate() {
         sums[column] = with_row(sums[column], row.number, code_of(*weight));
     }

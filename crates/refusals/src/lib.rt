@@ -75,7 +75,8 @@ pub enum Refusal {
 }
 
 impl Refusal {
-    // The number by which a refusal is known outside, as in what the job program prints.
+    // The number by which a refusal is known outside, as in what the job program prints. Two cases have one, so the cases'
+    // own values cannot be the numbers.
     pub fn number(self) -> u8
         ensures { result ≡ number_of self }
     {

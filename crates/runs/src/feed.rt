@@ -37,6 +37,7 @@ fn note_loss(slacks: &mut [u32; MOST_COLUMNS], cut: Aligned, weights: &[i16])
     if !cut.lost {
         return;
     }
+    // By column: of `iter_mut` zipped with the weights a proof would know no element.
     for (column, weight) in weights.iter().enumerate() {
         slacks[column] += u32::from(weight.unsigned_abs());
     }

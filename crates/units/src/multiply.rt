@@ -16,7 +16,7 @@ const LIMIT: u32 = 128;
 pub struct Multiplier {
     columns: Columns,
     rows: u32,
-    // The first `columns` of these are the totals.
+    // The first `columns` of these are the totals. A vector of fixed room would be filled by a loop when made and cleared.
     sums: [i64; MOST_COLUMNS],
     ghost wide: { length sums ≡ 16 },
     ghost short: { rows ≤ 128 },
@@ -37,6 +37,7 @@ fn grow(sums: &mut [i64; MOST_COLUMNS], row: Row<'_>)
     requires { Bounded (reach 65536) sums.old }
     ensures { sums.new ≡ grown sums.old row.entry.number.value row.entry.weights.now }
 {
+    // By column: of `iter_mut` zipped with the weights a proof would know no element.
     for (column, weight) in row.weights.iter().enumerate() {
         sums[column] = raised(sums[column], row.number, *weight);
     }

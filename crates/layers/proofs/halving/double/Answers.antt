@@ -12,11 +12,10 @@ loop-column-preserved c =
     let light = c.args.row.light i in
     let fits : SFits w16 w = search rules in
     let here : i < length c.loop-column.doubled = omega (arith, c.args.row.few, c.loop-column.invariant.0, c.loop-column-test.true) in
-    let value : to_z w16 (of_z w16 (to_z w16 (of_z w16 (pos 2 *ℤ to_z w16 (of_z w16 w))) +ℤ pos 1)) ≡ odd_of w = omega (arith, ints) in
-    (
+    let value : to_z w16 (of_z w16 (to_z w16 (of_z w16 (pos 2 *ℤ to_z w16 (of_z w16 w))) +ℤ pos 1)) ≡ odd_of w = omega (arith, ints) in (
       length-set c.loop-column.doubled i _ ∙ c.loop-column.invariant.0,
       ap (λ y. take (i + 1) (set c.loop-column.doubled i y)) value
-      ∙ take_more_set c.loop-column.doubled i (odd_of w) here
-      ∙ ap (λ xs. xs ++ odd_of w ∷ []) c.loop-column.invariant.1
-      ∙ sym (map_more odd_of ws i (pos 0) c.loop-column-test.true),
+          ∙ take_more_set c.loop-column.doubled i (odd_of w) here
+          ∙ ap (λ xs. xs ++ odd_of w ∷ []) c.loop-column.invariant.1
+          ∙ sym (map_more odd_of ws i (pos 0) c.loop-column-test.true),
     )
