@@ -24,7 +24,7 @@ fn line_of<'b, S: Sheet>(sheet: &S, row: usize, buffer: &'b mut [i16; MOST_COLUM
     ensures { result.now ≡ line (S.Sheet.meaning sheet.now) row }
 {
     let weights = &mut buffer[..sheet.columns()];
-    let _ = sheet.row(row, weights);
+    sheet.row(row, weights).unwrap();
     weights
 }
 
@@ -97,7 +97,7 @@ impl<F: Format, U: Unit> AlignedRun<F, U> {
         ensures format { self.new.format ≡ self.old.format }
         ensures puts { aligned F.Format.meaning U.Unit.meaning self.new ≡ put (aligned F.Format.meaning U.Unit.meaning self.old) cut.number cut.lost weights.now }
     {
-        let _ = self.unit.add(cut.number, weights);
+        self.unit.add(cut.number, weights).unwrap();
         note_loss(&mut self.slacks, cut, weights);
         self.rows += 1;
     }

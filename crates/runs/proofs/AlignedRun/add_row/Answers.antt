@@ -1,11 +1,24 @@
-use Rattle.std.proofs.Common.{◌≡◌, ℕ, ◌+◌, ◌*◌, ◌≤◌, cond, length, List, get_or, sym, ap, ◌∙◌, subst, arith, w64, SFits, rules}
+use Rattle.std.proofs.Common.{◌≡◌, ℕ, ◌+◌, ◌*◌, ◌≤◌, cond, length, List, get_or, sym, refl, ap, ◌∙◌, subst, arith, w64, SFits, rules}
 use Rattle.std.proofs.lemmas.Int.{to_z-of_z}
-use Rattle.units.specs.Meaning.{after_add}
-use Rattle.units.proofs.Checks.{leaves_added, weights_bounded}
+use Rattle.std.specs.Result.{IsOk}
+use Rattle.refusals.specs.Refusing.{verdict}
+use Rattle.units.specs.Meaning.{add_check, after_add}
+use Rattle.units.proofs.Checks.{answers_ok, leaves_added, weights_bounded}
 use Rattle.runs.specs.Runs.{aligned}
 use Rattle.runs.proofs.Adding.{slacks_bounded, accepted_row, row_put}
 use Rattle.runs.proofs.Holding.{length_row}
 use Rattle.runs.proofs.AlignedRun.add_row.Goals as goal
+
+pub unwrap-requires : goal.unwrap-requires
+unwrap-requires g c =
+    let run = c.args.self.now in
+    let unit = g.U.Unit.meaning run.unit in
+    let number = c.args.cut.number in
+    let ws = c.args.weights.now in
+    let fits : SFits w64 number = search rules in
+    let ok = accepted_row unit number ws c.requires.columns c.requires.room c.requires.small c.requires.taken in
+    let answered = subst (λ a. c.add.result ≡ verdict (add_check unit a ws)) (to_z-of_z w64 number fits) c.add.ensures.answers in
+    subst IsOk (sym (answered ∙ sym (answers_ok unit number ws ok))) refl
 
 pub invariant_of-self : goal.invariant_of-self
 invariant_of-self g c =
