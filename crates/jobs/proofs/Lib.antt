@@ -1,4 +1,5 @@
 pub mod Little
+pub mod Planning
 pub mod Reading
 pub mod Tiles
 pub mod Heading

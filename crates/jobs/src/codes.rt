@@ -1,7 +1,9 @@
 // The codes of a job: one byte each, which names a format or a unit. (The code of a sheet is the crate `sheets`' own.)
 ghost use Rattle.std.specs.Prelude.{◌≡◌};
-ghost use Rattle.sheets.specs.Code.{coded};
+ghost use Rattle.sheets.specs.Code.{coded, known};
 ghost use Rattle.jobs.specs.Codes.{format_codes, format_number, unit_codes, unit_number, word_bytes};
+
+use refusals::Refusal;
 
 // How the activations are written. Fixed8 has the power 0.
 #[derive(Clone, Copy, PartialEq, Eq, Debug)]
@@ -12,20 +14,24 @@ pub enum FormatCode {
     Fixed8,
 }
 
-impl FormatCode {
-    // The format that a number stands for.
-    pub fn from_number(number: u8) -> Option<FormatCode>
-        ensures { result ≡ coded format_number format_codes number }
-    {
+// The format that a number stands for.
+impl TryFrom<u8> for FormatCode {
+    type Error = Refusal;
+
+    ghost try_from_gives = { λ number r. r ≡ known (coded format_number format_codes number) };
+
+    fn try_from(number: u8) -> Result<Self, Refusal> {
         match number {
-            1 => Some(FormatCode::Binary16),
-            2 => Some(FormatCode::Bfloat16),
-            3 => Some(FormatCode::Binary32),
-            4 => Some(FormatCode::Fixed8),
-            _ => None,
+            1 => Ok(FormatCode::Binary16),
+            2 => Ok(FormatCode::Bfloat16),
+            3 => Ok(FormatCode::Binary32),
+            4 => Ok(FormatCode::Fixed8),
+            _ => Err(Refusal::UnknownCode),
         }
     }
+}
 
+impl FormatCode {
     // How many bytes a word has.
     pub fn word_bytes(self) -> usize
         ensures { result ≡ word_bytes self }
@@ -46,16 +52,18 @@ pub enum UnitCode {
     DrainPlane,
 }
 
-impl UnitCode {
-    // The unit that a number stands for.
-    pub fn from_number(number: u8) -> Option<UnitCode>
-        ensures { result ≡ coded unit_number unit_codes number }
-    {
+// The unit that a number stands for.
+impl TryFrom<u8> for UnitCode {
+    type Error = Refusal;
+
+    ghost try_from_gives = { λ number r. r ≡ known (coded unit_number unit_codes number) };
+
+    fn try_from(number: u8) -> Result<Self, Refusal> {
         match number {
-            1 => Some(UnitCode::DrainMultiplier),
-            2 => Some(UnitCode::DrainOddPlane),
-            3 => Some(UnitCode::DrainPlane),
-            _ => None,
+            1 => Ok(UnitCode::DrainMultiplier),
+            2 => Ok(UnitCode::DrainOddPlane),
+            3 => Ok(UnitCode::DrainPlane),
+            _ => Err(Refusal::UnknownCode),
         }
     }
 }

@@ -5,6 +5,8 @@ ghost use Rattle.jobs.specs.Plan.{plan_of, plan_check, activation_bytes, weight_
 
 use crate::codes::{FormatCode, UnitCode};
 use crate::trailer::Trailer;
+use alignment::ExtraBits;
+use columns::Columns;
 use refusals::Refusal;
 use sheets::SheetCode;
 
@@ -23,36 +25,24 @@ const MARK: u8 = 0x54;
 
 const MOST_ROWS: u16 = 4096;
 
-const MOST_COLUMNS: u8 = 16;
-
-const MOST_EXTRA: u8 = 12;
-
 // Each sheet has the weights of so many rows, the last one fewer.
 const SHEET_ROWS: u16 = 128;
 
-impl Plan {
-    // What a trailer asks for.
-    pub(crate) fn from_trailer(trailer: Trailer) -> Result<Plan, Refusal>
-        ensures { Made (plan_check trailer) (λ p. plan_of trailer ≡ Some p) result }
-    {
-        let Some(format) = FormatCode::from_number(trailer.format) else {
-            return Err(Refusal::UnknownCode);
-        };
-        let Some(sheet) = SheetCode::from_number(trailer.sheet) else {
-            return Err(Refusal::UnknownCode);
-        };
-        let Some(unit) = UnitCode::from_number(trailer.unit) else {
-            return Err(Refusal::UnknownCode);
-        };
+// What a trailer asks for.
+impl TryFrom<Trailer> for Plan {
+    type Error = Refusal;
+
+    ghost try_from_gives = { λ trailer r. Made (plan_check trailer) (λ p. plan_of trailer ≡ Some p) r };
+
+    fn try_from(trailer: Trailer) -> Result<Self, Refusal> {
+        let format = FormatCode::try_from(trailer.format)?;
+        let sheet = SheetCode::try_from(trailer.sheet)?;
+        let unit = UnitCode::try_from(trailer.unit)?;
         if trailer.mark != MARK || trailer.rows > MOST_ROWS {
             return Err(Refusal::UnknownCode);
         }
-        if trailer.columns == 0 || trailer.columns > MOST_COLUMNS {
-            return Err(Refusal::ColumnCount);
-        }
-        if trailer.extra > MOST_EXTRA {
-            return Err(Refusal::ExtraBits);
-        }
+        Columns::new(usize::from(trailer.columns))?;
+        ExtraBits::new(u32::from(trailer.extra))?;
         Ok(Plan {
             rows: trailer.rows,
             columns: trailer.columns,
@@ -62,7 +52,9 @@ impl Plan {
             unit,
         })
     }
+}
 
+impl Plan {
     // How many bytes the activations take.
     pub fn activation_bytes(self) -> usize
         ensures value { result ≡ activation_bytes self }

@@ -30,7 +30,7 @@ impl<'a> Job<'a> {
         ensures { Made (job_check file.now) (JobOf file.now) result }
     {
         let trailer = Trailer::read(file)?;
-        let plan = Plan::from_trailer(trailer)?;
+        let plan = Plan::try_from(trailer)?;
         let activations = Section::cut(file, trailer.activations, plan.activation_bytes())?;
         let weights = Section::cut(file, trailer.weights, plan.weight_bytes())?;
         Ok(Job {
