@@ -1,50 +1,66 @@
 -- The header of a job that was read.
-use Rattle.std.proofs.Common.{◌≡◌, ℕ, List, length, ℤ, Some, Ok, Err, sym, ap, ◌∙◌}
+use Rattle.std.proofs.Common.{◌≡◌, ℕ, ◌*◌, ◌/◌, List, length, take, drop, ℤ, Some, Ok, Err, sym, ap, ◌∙◌, arith}
 use Rattle.refusals.specs.declared.Refusal.{Refusal}
 use Rattle.refusals.specs.Refusing.{answer, Made}
 use Rattle.refusals.proofs.Refusing.{first_refuses, first_passes, made, unmade, was_made, was_refused, when_ok, when_err}
 use Rattle.alignment.specs.Tile.{largest}
+use Rattle.jobs.specs.declared.activations.Activations.{Activations}
+use Rattle.jobs.specs.declared.codes.FormatCode.{FormatCode}
+use Rattle.jobs.specs.declared.codes.FormatCode.TheVariants.{Binary16, Bfloat16, Binary32, Fixed8}
 use Rattle.jobs.specs.declared.job.Job.{Job}
 use Rattle.jobs.specs.declared.plan.Plan.{Plan}
+use Rattle.jobs.specs.Activations.{format_of, held_words, section_words}
+use Rattle.jobs.specs.Codes.{word_bytes}
 use Rattle.jobs.specs.Job.{job_check, JobOf}
 use Rattle.jobs.specs.Plan.{with_some, plan_of, activation_bytes}
-use Rattle.jobs.specs.Survey.{coding_of, tiles_check, activations_tile, file_tile, header_check, header_of, HeaderOf}
+use Rattle.jobs.specs.Survey.{coding_of, tiles_check, activation_words, surveyed, file_tile, header_check, header_of, HeaderOf}
 use Rattle.jobs.specs.Trailer.{trailer_of}
+use Rattle.jobs.specs.Words.{little, words_in}
 
 -- a file that holds no job has no header
 pub no_job : (file : List ℕ) (e : Refusal) → Made (job_check file) (JobOf file) (Err e) → Made (header_check file) (HeaderOf file) (Err e)
 no_job file e why = unmade (header_check file) _ e (first_refuses _ (was_refused (job_check file) _ e why))
 
-module _ (file : List ℕ) (job : Job) (read : Made (job_check file) (JobOf file) (Ok job)) where
+-- the bytes of so many words are as many words
+whole : (format : FormatCode) (rows n : ℕ) → n ≡ rows * word_bytes format → n / word_bytes format ≡ rows
+whole Binary16 rows n e = omega (arith, e)
+whole Bfloat16 rows n e = omega (arith, e)
+whole Binary32 rows n e = omega (arith, e)
+whole Fixed8 rows n e = omega (arith, e)
+
+-- the words that a section holds, one for each row
+pub one_each : (p : Plan) (bytes : List ℕ) → length bytes ≡ activation_bytes p → section_words p.format bytes ≡ activation_words p bytes
+one_each p bytes long = ap (λ n. words_in (word_bytes p.format) little n bytes) (whole p.format p.rows (length bytes) long)
+
+module _ (file : List ℕ) (job : Job) (read : Made (job_check file) (JobOf file) (Ok job)) (words : Activations)
+    (format : format_of words ≡ job.plan.format) (held : held_words words ≡ section_words job.plan.format job.activations.bytes.now) where
   holds : JobOf file job
   holds = (was_made (job_check file) _ job read).1
 
-  pub section_long : length job.activations.bytes.now ≡ activation_bytes job.plan
-  section_long = holds.activations.long
+  -- the words are those in the file
+  same_words : held_words words ≡ activation_words job.plan (take (activation_bytes job.plan) (drop (trailer_of file).activations file))
+  same_words = held ∙ one_each job.plan job.activations.bytes.now holds.activations.long ∙ ap (activation_words job.plan) holds.activations.holds
 
-  -- the words of the section are those in the file
-  same : activations_tile job.plan job.activations.bytes.now ≡ file_tile file job.plan
-  same = ap (activations_tile job.plan) holds.activations.holds
+  same : surveyed (coding_of (format_of words)) (held_words words) ≡ answer (tiles_check 0 (file_tile file job.plan)) (largest (coding_of job.plan.format).least (file_tile file job.plan))
+  same = ap (λ f. surveyed (coding_of f) (held_words words)) format ∙ ap (surveyed (coding_of job.plan.format)) same_words
 
-  behind_job : header_check file ≡ tiles_check 0 (activations_tile job.plan job.activations.bytes.now)
+  behind_job : header_check file ≡ tiles_check 0 (file_tile file job.plan)
   behind_job =
       first_passes _ (was_made (job_check file) (JobOf file) job read).0
-      ∙ ap (λ o. with_some o (λ p. tiles_check 0 (file_tile file p))) holds.plan
-      ∙ ap (tiles_check 0) (sym same)
+      ∙ ap (λ o. with_some o (λ q. tiles_check 0 (file_tile file q))) holds.plan
 
-  pub not_all_finite : (e : Refusal) (m : ℤ) → Err e ≡ answer (tiles_check 0 (activations_tile job.plan job.activations.bytes.now)) m → Made (header_check file) (HeaderOf file) (Err e)
-  not_all_finite e m why = unmade (header_check file) _ e (behind_job ∙ when_err (tiles_check 0 (activations_tile job.plan job.activations.bytes.now)) m e why)
+  pub not_all_finite : (e : Refusal) → Err e ≡ surveyed (coding_of (format_of words)) (held_words words) → Made (header_check file) (HeaderOf file) (Err e)
+  not_all_finite e why = unmade (header_check file) _ e (behind_job ∙ when_err (tiles_check 0 (file_tile file job.plan)) _ e (why ∙ same))
 
-  pub headed : (shared : ℤ) → Ok shared ≡ answer (tiles_check 0 (activations_tile job.plan job.activations.bytes.now)) (largest (coding_of job.plan.format).least (activations_tile job.plan job.activations.bytes.now))
+  pub headed : (shared : ℤ) → Ok shared ≡ surveyed (coding_of (format_of words)) (held_words words)
       → Made (header_check file) (HeaderOf file) (Ok (record { rows = job.plan.rows; shared = shared; extra = job.plan.extra }))
   headed shared found =
-      let ok = when_ok (tiles_check 0 (activations_tile job.plan job.activations.bytes.now)) (largest (coding_of job.plan.format).least (activations_tile job.plan job.activations.bytes.now)) shared found in
-      let top = ok.1 ∙ ap (largest (coding_of job.plan.format).least) same in
-      made (header_check file) (HeaderOf file) _ (behind_job ∙ ok.0) (λ p is. one_plan p is top)
+      let ok = when_ok (tiles_check 0 (file_tile file job.plan)) (largest (coding_of job.plan.format).least (file_tile file job.plan)) shared (found ∙ same) in
+      made (header_check file) (HeaderOf file) _ (behind_job ∙ ok.0) (λ q is. one_plan q is ok.1)
     where
-      one_plan : (p : Plan) → plan_of (trailer_of file) ≡ Some p → shared ≡ largest (coding_of job.plan.format).least (file_tile file job.plan)
-          → record { rows = job.plan.rows; shared = shared; extra = job.plan.extra } ≡ header_of file p
-      one_plan p is top =
-          let plan : Some job.plan ≡ Some p = sym holds.plan ∙ is in
-          let plain : job.plan ≡ p = cc in
+      one_plan : (q : Plan) → plan_of (trailer_of file) ≡ Some q → shared ≡ largest (coding_of job.plan.format).least (file_tile file job.plan)
+          → record { rows = job.plan.rows; shared = shared; extra = job.plan.extra } ≡ header_of file q
+      one_plan q is top =
+          let plan : Some job.plan ≡ Some q = sym holds.plan ∙ is in
+          let plain : job.plan ≡ q = cc in
           ap (λ (z : ℤ). record { rows = job.plan.rows; shared = z; extra = job.plan.extra }) top ∙ ap (header_of file) plain

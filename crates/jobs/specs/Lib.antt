@@ -1,3 +1,4 @@
+pub mod Error
 pub mod Words
 pub mod Codes
 pub mod Activations

@@ -4,7 +4,7 @@ ghost use Rattle.jobs.specs.Activations.{format_of, held_words, section_words};
 
 use crate::codes::FormatCode;
 use crate::job::Job;
-use crate::words::whole_words_of;
+use crate::words::words_of;
 use std::alloc::{AllocError, Global};
 
 // Words in the order of the rows.
@@ -24,10 +24,10 @@ impl Job<'_> {
     {
         let bytes = self.activations.bytes;
         Ok(match self.plan.format {
-            FormatCode::Binary16 => Activations::Binary16(whole_words_of(heap, bytes)?),
-            FormatCode::Bfloat16 => Activations::Bfloat16(whole_words_of(heap, bytes)?),
-            FormatCode::Binary32 => Activations::Binary32(whole_words_of(heap, bytes)?),
-            FormatCode::Fixed8 => Activations::Fixed8(whole_words_of(heap, bytes)?),
+            FormatCode::Binary16 => Activations::Binary16(words_of(heap, bytes)?),
+            FormatCode::Bfloat16 => Activations::Bfloat16(words_of(heap, bytes)?),
+            FormatCode::Binary32 => Activations::Binary32(words_of(heap, bytes)?),
+            FormatCode::Fixed8 => Activations::Fixed8(words_of(heap, bytes)?),
         })
     }
 }

@@ -3,6 +3,7 @@
 
 mod activations;
 mod codes;
+mod error;
 mod job;
 mod plan;
 mod reader;
@@ -12,6 +13,7 @@ mod words;
 
 pub use activations::Activations;
 pub use codes::{FormatCode, UnitCode};
+pub use error::JobError;
 pub use job::{Job, Section};
 pub use plan::Plan;
 pub use survey::header;
