@@ -4,7 +4,7 @@
 ghost use Rattle.std.specs.Prelude.{IfOk, string_bytes};
 ghost use Rattle.alignsum.specs.Printed.{Printed};
 
-use jobs::header;
+use jobs::{JobError, header};
 use listing::Refused;
 use std::alloc::{AllocError, Global};
 use std::io;
@@ -17,9 +17,10 @@ const MOST_READ: u64 = 65_537;
 fn answer(heap: Global, file: &[u8]) -> Result<String, AllocError>
     ensures { IfOk result (λ s. Printed file.now (string_bytes s)) }
 {
-    match header(heap, file)? {
+    match header(heap, file) {
         Ok(header) => header.to_string(heap),
-        Err(refusal) => Refused(refusal).to_string(heap),
+        Err(JobError::Refused(refusal)) => Refused(refusal).to_string(heap),
+        Err(JobError::Memory(error)) => Err(error),
     }
 }
 
