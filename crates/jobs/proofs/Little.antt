@@ -1,21 +1,12 @@
 -- Numbers and words as bytes spell them.
-use Rattle.std.proofs.Common.{◌≡◌, ℕ, suc, ◌+◌, ◌*◌, ◌/◌, ◌<◌, ◌≤◌, List, [], ◌∷◌, ◌++◌, length, get_or, take, drop, sym, refl, ap, ◌∙◌, subst, add_comm, add-one, arith}
+use Rattle.std.proofs.Common.{◌≡◌, ℕ, suc, ◌/◌, ◌<◌, ◌≤◌, List, [], ◌∷◌, ◌++◌, length, take, drop, sym, refl, ap, ◌∙◌, subst, add_comm, add-one, arith}
 use Rattle.std.proofs.Math.Nat.{add-div_right, div-eq_of_lt}
 use Rattle.std.proofs.Math.Seq.{drop-append_seam, take-append_seam}
 use Rattle.std.proofs.lemmas.List.{length-append}
 use Rattle.std.proofs.lemmas.Iterator.{YieldsList}
 use Rattle.std.proofs.lemmas.Iterator.Splits.{YieldsList-from_shown_while}
 use Rattle.std.specs.Slice.Iter.{chunks_exact_rest, chunks_exact_size, chunks_exact_steps}
-use Rattle.jobs.specs.Words.{little, words_in, whole_words}
-
--- up to four bytes, each by its place
-pub little_places : (bytes : List ℕ) → length bytes ≤ 4 → little bytes ≡ get_or bytes 0 0 + get_or bytes 1 0 * 256 + get_or bytes 2 0 * 65536 + get_or bytes 3 0 * 16777216
-little_places [] h = refl
-little_places (a ∷ []) h = omega arith
-little_places (a ∷ b ∷ []) h = omega arith
-little_places (a ∷ b ∷ c ∷ []) h = omega arith
-little_places (a ∷ b ∷ c ∷ d ∷ []) h = omega arith
-little_places (a ∷ b ∷ c ∷ d ∷ e ∷ bytes) h = omega arith
+use Rattle.jobs.specs.Words.{words_in, whole_words}
 
 -- ---- the words that the bytes hold whole
 module _ {W : Type 0} (width : ℕ) (spelled : List ℕ → W) (some : 1 ≤ width) where

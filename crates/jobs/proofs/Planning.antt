@@ -4,14 +4,13 @@ use Rattle.std.proofs.lemmas.Bool.Decides.{nat_tests}
 use Rattle.refusals.specs.declared.Refusal.{Refusal}
 use Rattle.refusals.specs.declared.Refusal.TheVariants.{UnknownCode}
 use Rattle.refusals.specs.Refusing.{refuse, Made}
-use Rattle.refusals.proofs.Refusing.{first_refuses, first_passes, made, unmade, was_made, was_refused}
+use Rattle.refusals.proofs.Refusing.{first_refuses, first_passes, unmade, was_made, was_refused}
 use Rattle.columns.specs.Columns.{columns_check}
 use Rattle.alignment.specs.Tile.{extra_check}
 use Rattle.sheets.specs.Code.{coded, known, sheet_codes, sheet_number}
 use Rattle.sheets.specs.declared.code.SheetCode.{SheetCode}
 use Rattle.jobs.specs.declared.codes.FormatCode.{FormatCode}
 use Rattle.jobs.specs.declared.codes.UnitCode.{UnitCode}
-use Rattle.jobs.specs.declared.plan.Plan.{Plan}
 use Rattle.jobs.specs.declared.trailer.Trailer.{Trailer}
 use Rattle.jobs.specs.Codes.{format_codes, format_number, unit_codes, unit_number}
 use Rattle.jobs.specs.Plan.{plan_of, plan_check, unknown}
@@ -44,7 +43,3 @@ module _ (t : Trailer) (format : FormatCode) (sheet : SheetCode) (unit : UnitCod
 
       pub extra_refused : {Y : Type 0} (Q : Y → Type 0) (e : Refusal) → Made (extra_check extra) Q (Err e) → Made (plan_check t) (λ p. plan_of t ≡ Some p) (Err e)
       extra_refused Q e why = unmade (plan_check t) _ e (behind_columns ∙ was_refused (extra_check extra) Q e why)
-
-      pub plan_made : {Y : Type 0} (Q : Y → Type 0) (y : Y) → Made (extra_check extra) Q (Ok y)
-          → Made (plan_check t) (λ p. plan_of t ≡ Some p) (Ok (record { rows = t.rows; columns = t.columns; format = format; sheet = sheet; extra = t.extra; unit = unit }))
-      plan_made Q y ok = made (plan_check t) _ _ (behind_columns ∙ (was_made (extra_check extra) Q y ok).0) planned

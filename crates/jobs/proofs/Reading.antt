@@ -1,6 +1,5 @@
 -- A file is read step by step: the trailer, its plan, and the two sections. The first step that is refused refuses the job.
-use Rattle.std.proofs.Common.{◌≡◌, ℕ, ◌≤◌, List, length, Some, None, Ok, Err, Result, sym, ap, ◌∙◌, subst, arith}
-use Rattle.std.proofs.lemmas.Bool.Decides.{nat_tests}
+use Rattle.std.proofs.Common.{◌≡◌, ℕ, List, length, Some, None, Ok, Err, Result, sym, ap, ◌∙◌, subst}
 use Rattle.refusals.specs.declared.Refusal.{Refusal}
 use Rattle.refusals.specs.Refusing.{Made}
 use Rattle.refusals.proofs.Refusing.{first_refuses, first_passes, made, unmade, was_made, was_refused}
@@ -20,15 +19,9 @@ Cut file place n r = Made (section_check file place n) (SectionOf file place n) 
 abbrev Reads : List ℕ → Result Job Refusal → Type 0
 Reads file r = Made (job_check file) (JobOf file) r
 
-long : (file : List ℕ) → file_check (length file) ≡ None → 16 ≤ length file
-long file fits = grind (arith, nat_tests)
-
 module _ (file : List ℕ) (t : Trailer) (read : Made (file_check (length file)) (λ u. u ≡ trailer_of file) (Ok t)) where
   is : t ≡ trailer_of file
   is = (was_made (file_check (length file)) _ t read).1
-
-  pub long_enough : 16 ≤ length file
-  long_enough = long file (was_made (file_check (length file)) (λ u. u ≡ trailer_of file) t read).0
 
   behind_file : job_check file ≡ trailer_check file t
   behind_file = first_passes _ (was_made (file_check (length file)) (λ u. u ≡ trailer_of file) t read).0 ∙ ap (trailer_check file) (sym is)

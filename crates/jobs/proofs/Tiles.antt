@@ -69,8 +69,3 @@ module _ {W : Type 0} (f : W → Option Decoded) (rest tile more : List W) (size
 
   pub next_largest : (m : ℤ) → largest m (map f rest) ≡ largest (largest m (map f tile)) (map f more)
   next_largest m = ap (largest m) joined ∙ largest_append m (map f tile) (map f more)
-
--- no words are left
-pub none_left : {W : Type 0} (f : W → Option Decoded) (m : ℤ) (rest : List W) → length rest ≡ 0 → (tiles_check 0 (map f rest) ≡ None) × (largest m (map f rest) ≡ m)
-none_left f m [] e = (refl, refl)
-none_left f m (w ∷ rest) e = absurd (omega arith)

@@ -1,24 +1,10 @@
-use Rattle.std.proofs.Common.{map, Err, sym, ap, ◌∙◌, arith, w32, SFits, rules}
+use Rattle.std.proofs.Common.{map, Err, sym, ap, ◌∙◌, arith}
 use Rattle.std.specs.Slice.Iter.{chunks_rest, chunks_size}
 use Rattle.std.proofs.lemmas.Result.{err_from_is_err_and}
-use Rattle.std.proofs.lemmas.Int.{to_z-of_z}
-use Rattle.refusals.proofs.Refusing.{refused, accepted, was_made, was_refused}
+use Rattle.refusals.proofs.Refusing.{refused, was_made, was_refused}
 use Rattle.alignment.specs.Tile.{survey_check, largest}
-use Rattle.jobs.specs.Survey.{tiles_check}
-use Rattle.jobs.proofs.Tiles.{next_passed, next_faulty, next_largest, none_left}
+use Rattle.jobs.proofs.Tiles.{next_passed, next_faulty, next_largest}
 use Rattle.jobs.proofs.survey.survey_tiles.Goals as goal
-
-pub loop-tile-init : goal.loop-tile-init
-loop-tile-init g c =
-    let f = g.F.Format.meaning c.args.format.now in
-    let all = sym (ap chunks_rest c.into_iter-tile-iterator.ensures.into_iter_gives ∙ c.chunks-tile-items.ensures.rest) in
-    let size = ap chunks_size c.into_iter-tile-iterator.ensures.into_iter_gives ∙ c.chunks-tile-items.ensures.size in (
-      omega (arith, size),
-      tt,
-      size,
-      ap (λ ws. tiles_check 0 (map f.decode ws)) all,
-      ap (λ m. largest m (map f.decode c.args.words.now)) (sym c.least-shared.ensures) ∙ ap (λ ws. largest c.least-shared.result.exponent (map f.decode ws)) all,
-    )
 
 pub returns-in_err-shared : goal.returns-in_err-shared
 returns-in_err-shared g c =
@@ -46,10 +32,3 @@ loop-tile-preserved g c =
       c.loop-tile.invariant.4 ∙ next_largest f rest tile more (chunks_size c.loop-tile.tile-iterator) parts.0 parts.1 c.loop-tile.invariant.2 c.loop-tile.shared.exponent
           ∙ ap (λ m. largest m (map f more)) (sym ok.1),
     )
-
-pub returns : goal.returns
-returns g c =
-    let f = (g.F.Format.meaning c.args.format.now).decode in
-    let end = none_left f c.loop-tile.shared.exponent (chunks_rest c.loop-tile.tile-iterator) c.in-None.ensures.steps.1.0 in
-    let fits : SFits w32 c.exponent.result = search rules in
-    accepted (c.loop-tile.invariant.3 ∙ end.0) (to_z-of_z w32 c.exponent.result fits ∙ c.exponent.ensures ∙ sym (c.loop-tile.invariant.4 ∙ end.1))

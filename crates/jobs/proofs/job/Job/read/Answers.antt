@@ -1,5 +1,5 @@
 use Rattle.std.proofs.lemmas.Result.{err_from_is_err_and}
-use Rattle.jobs.proofs.Reading.{long_enough, plan_refused, first_refused, second_refused, whole}
+use Rattle.jobs.proofs.Reading.{plan_refused, first_refused, second_refused, whole}
 use Rattle.jobs.proofs.job.Job.read.Goals as goal
 
 pub returns-in_err-plan : goal.returns-in_err-plan
@@ -7,24 +7,12 @@ returns-in_err-plan c =
     let p = err_from_is_err_and c.from_residual-in_err-plan.result c.from_residual-in_err-plan.ensures.1 in
     rw (p.1, p.2) (plan_refused c.args.file.now c.in_ok-trailer.trailer c.in_ok-trailer.ensures _ c.in_err-plan.ensures)
 
-pub cut-requires : goal.cut-requires
-cut-requires c = record {
-  long = long_enough c.args.file.now c.in_ok-trailer.trailer c.in_ok-trailer.ensures;
-  short = c.activation_bytes.ensures.bound;
-}
-
 pub returns-in_err-activations : goal.returns-in_err-activations
 returns-in_err-activations c =
     let p = err_from_is_err_and c.from_residual-in_err-activations.result c.from_residual-in_err-activations.ensures.1 in
     rw (p.1, p.2)
     (first_refused c.args.file.now c.in_ok-trailer.trailer c.in_ok-trailer.ensures c.in_ok-plan.plan c.in_ok-plan.ensures _
     c.activation_bytes.ensures.value _ c.in_err-activations.ensures)
-
-pub cut-requires-2 : goal.cut-requires-2
-cut-requires-2 c = record {
-  long = long_enough c.args.file.now c.in_ok-trailer.trailer c.in_ok-trailer.ensures;
-  short = c.weight_bytes.ensures.bound;
-}
 
 pub returns-in_err-weights : goal.returns-in_err-weights
 returns-in_err-weights c =
