@@ -13,7 +13,7 @@ pub struct Misplaced {
 }
 
 // A call is misplaced, or memory ran out.
-#[derive(Clone, Copy, Debug, Error)]
+#[derive(Clone, Copy, PartialEq, Eq, Debug, Error)]
 pub enum WorkError {
     #[error(transparent)]
     Misplaced(Misplaced),
