@@ -1,11 +1,9 @@
 -- What working a list of calls gives.
 use Rattle.std.specs.Prelude.{◌≡◌, ℕ, Bool, true, false, List, map, Some, None, Ok, Err, vec_items, Option, Result}
-use Rattle.refusals.specs.declared.Refusal.{Refusal}
 use Rattle.formats.specs.Coding.{Coding}
 use Rattle.alignment.specs.Tile.{tile_of}
 use Rattle.sheets.specs.Page.{Page}
 use Rattle.units.specs.Meaning.{Meaning}
-use Rattle.runs.specs.declared.Reading.{Reading}
 use Rattle.runs.specs.Checks.{setting}
 use Rattle.runs.specs.State.{State, reading}
 use Rattle.runs.specs.Log.{Log, Event, survey, fix, feed, read, clear, empty, after, Holds, Sound, Alike, ReadsAlike}

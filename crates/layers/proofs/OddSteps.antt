@@ -1,13 +1,12 @@
 -- The odd layer: halves, what handing down makes of what the layer means, and why it never shows a bound.
 use Rattle.std.specs.Prelude.{◌≡◌, ℕ, zero, suc, ◌+◌, ◌*◌, ◌^◌, ◌<◌, ◌≤◌, min, max, List, [], ◌∷◌, map, length, replicate, ℤ, pos, negsuc, ◌+ℤ◌, ◌-ℤ◌, ◌*ℤ◌, ◌≤ℤ◌, Ok, FitsSigned, slice_index_or, unsigned_abs, refl}
-use Rattle.std.proofs.Common.{sym, ap, ◌∙◌, ⊎_elim, arith, to_z, of_z}
+use Rattle.std.proofs.Common.{sym, ap, ◌∙◌, arith, to_z, of_z}
 use Rattle.std.specs.Int.Signed.{mag_shr, shr_z}
 use Rattle.std.specs.Int.{w64}
 use Rattle.std.proofs.lemmas.Int.{ints, to_z-of_z}
-use Rattle.std.proofs.lemmas.List.{length-map, get_or-map, get_or_past}
-use Rattle.std.proofs.lemmas.Bool.{cases_lt}
+use Rattle.std.proofs.lemmas.List.{length-map, get_or-map}
 use Rattle.units.specs.Meaning.{Meaning, Lawful, Bounded, columns_of, reach, grown, add_check, added, after_add, cleared, total_at}
-use Rattle.units.proofs.Checks.{Accepted, T_from_true, when_accepted, added_lawful, cleared_lawful, total_there, unless_both, unless_map}
+use Rattle.units.proofs.Checks.{Accepted, when_accepted, added_lawful, cleared_lawful, total_there, unless_both, unless_map}
 use Rattle.integers.proofs.Laws.{abs_sum, product_sum}
 use Rattle.units.proofs.Reach.{zeros_bounded}
 use Rattle.layers.specs.Layer.{held, unit_after}

@@ -1,5 +1,5 @@
 -- What a layer shows: it keeps the laws, and within them it is what the layer states.
-use Rattle.std.specs.Prelude.{◌≡◌, ℕ, suc, ◌<◌, ◌≤◌, min, List, [], ◌∷◌, map, length, ℤ, pos, negsuc, neg_ℤ, slice_index_or, unsigned_abs, refl}
+use Rattle.std.specs.Prelude.{◌≡◌, ℕ, suc, ◌≤◌, min, List, [], ◌∷◌, map, ℤ, pos, negsuc, neg_ℤ, unsigned_abs, refl}
 use Rattle.std.proofs.Common.{ap, ◌∙◌, arith}
 use Rattle.units.specs.Meaning.{Meaning, Bounded, reach}
 use Rattle.layers.specs.Layer.{held, shown}

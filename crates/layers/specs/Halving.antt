@@ -1,5 +1,5 @@
 -- Twice a weight and one more, and back.
-use Rattle.std.specs.Prelude.{ℕ, ◌/◌, ℤ, pos, negsuc, ◌+ℤ◌}
+use Rattle.std.specs.Prelude.{◌/◌, ℤ, pos, negsuc, ◌+ℤ◌}
 
 -- the weight that is handed down for w: 2w + 1
 abbrev pub odd_of : ℤ → ℤ

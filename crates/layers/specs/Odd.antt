@@ -1,5 +1,5 @@
 -- What the odd layer holds and means, and what its calls make of it.
-use Rattle.std.specs.Prelude.{◌≡◌, ℕ, ◌+◌, ◌/◌, max, List, map, ℤ, pos, negsuc, ◌+ℤ◌, ◌-ℤ◌}
+use Rattle.std.specs.Prelude.{◌≡◌, ℕ, ◌+◌, max, List, map, ℤ, pos, ◌+ℤ◌, ◌-ℤ◌}
 use Rattle.refusals.specs.Refusing.{unless}
 use Rattle.units.specs.Meaning.{Meaning, Lawful, cleared, add_check, added}
 use Rattle.units.specs.declared.Unit as Unit

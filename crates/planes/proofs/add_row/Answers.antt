@@ -1,4 +1,4 @@
-use Rattle.std.proofs.Common.{◌≡◌, [], get_or, take, set, pos, sym, ap, ◌∙◌, subst, arith, w16, SFits, rules}
+use Rattle.std.proofs.Common.{[], get_or, take, set, pos, sym, ap, ◌∙◌, subst, arith, w16, SFits, rules}
 use Rattle.std.proofs.lemmas.Int.{to_z-of_z}
 use Rattle.units.specs.Meaning.{Bounded, plus_each}
 use Rattle.planes.specs.Columns.{code, signs, spread}

@@ -1,4 +1,4 @@
-use Rattle.std.proofs.Common.{◌≡◌, true, None, refl, ap, ◌∙◌, subst, rules}
+use Rattle.std.proofs.Common.{◌≡◌, true, None, refl, subst, rules}
 use Rattle.refusals.specs.Refusing.{answer}
 use Rattle.alignment.specs.Tile.{tile_of, survey_check}
 use Rattle.runs.specs.Log.{survey, feed}

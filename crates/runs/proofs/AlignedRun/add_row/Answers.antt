@@ -1,4 +1,4 @@
-use Rattle.std.proofs.Common.{◌≡◌, ℕ, ◌+◌, ◌*◌, ◌≤◌, cond, length, List, get_or, sym, refl, ap, ◌∙◌, subst, arith, w64, SFits, rules}
+use Rattle.std.proofs.Common.{◌≡◌, ℕ, ◌+◌, ◌*◌, ◌≤◌, length, List, get_or, sym, refl, ap, ◌∙◌, subst, arith, w64, SFits, rules}
 use Rattle.std.proofs.lemmas.Int.{to_z-of_z}
 use Rattle.std.specs.Result.{IsOk}
 use Rattle.refusals.specs.Refusing.{verdict}

@@ -7,7 +7,7 @@ use Rattle.units.specs.Meaning.{first_untaken}
 use Rattle.runs.specs.Checks.{Setting}
 use Rattle.runs.specs.State.{setting_of, step_size, put, add_row, rows_of, fed_check}
 use Rattle.runs.specs.Runs.{aligned}
-use Rattle.runs.proofs.Feeding.{midway_none, midway_all, midway_taken, midway_more}
+use Rattle.runs.proofs.Feeding.{midway_all, midway_taken, midway_more}
 use Rattle.runs.proofs.Holding.{logged_feed}
 use Rattle.runs.proofs.Tiles.{passes}
 use Rattle.runs.proofs.AlignedRun.feed.Goals as goal

@@ -1,4 +1,4 @@
-use Rattle.std.proofs.Common.{◌≡◌, ◌+◌, ◌≤◌, get_or, take, set, pos, ◌+ℤ◌, ◌*ℤ◌, sym, ap, ◌∙◌, arith, w16, w64, SFits, to_z, of_z, rules}
+use Rattle.std.proofs.Common.{◌≡◌, ◌+◌, get_or, take, set, pos, ◌+ℤ◌, ◌*ℤ◌, sym, ap, ◌∙◌, arith, w16, w64, SFits, rules}
 use Rattle.std.proofs.lemmas.Int.{to_z-of_z}
 use Rattle.units.specs.Meaning.{grown}
 use Rattle.units.proofs.Reach.{grown_none, grown_more, get_or_grown_past}

@@ -1,4 +1,4 @@
-use Rattle.std.proofs.Common.{◌≡◌, ◌+ℤ◌, ◌*ℤ◌, ◌∙◌, arith, w16, w64, SFits, rules}
+use Rattle.std.proofs.Common.{◌≡◌, ◌*ℤ◌, ◌∙◌, arith, w16, w64, SFits, rules}
 use Rattle.std.proofs.lemmas.Int.{to_z-of_z}
 use Rattle.units.proofs.Reach.{row_reach, product_fits, sum_fits}
 use Rattle.units.proofs.multiply.raised.Goals as goal

@@ -1,4 +1,4 @@
-use Rattle.std.proofs.Common.{◌≡◌, ◌+◌, ◌≤◌, length, ap, ◌∙◌, arith}
+use Rattle.std.proofs.Common.{◌≡◌, ◌+◌, length, ap, ◌∙◌, arith}
 use Rattle.units.specs.Meaning.{Meaning, Bounded, reach}
 use Rattle.units.proofs.Reach.{length_plus, plus_bounded}
 use Rattle.layers.proofs.draining.Drain.make_room.Goals as goal

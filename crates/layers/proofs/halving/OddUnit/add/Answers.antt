@@ -1,4 +1,4 @@
-use Rattle.std.proofs.Common.{◌≡◌, ◌+◌, map, ◌+ℤ◌, sym, ap, ◌∙◌, subst, arith, w64, SFits, rules}
+use Rattle.std.proofs.Common.{◌≡◌, ◌+◌, map, ◌+ℤ◌, sym, ap, ◌∙◌, arith, w64, SFits, rules}
 use Rattle.std.proofs.lemmas.Int.{ints}
 use Rattle.refusals.specs.Refusing.{verdict}
 use Rattle.refusals.proofs.Refusing.{changed}
