@@ -1,4 +1,4 @@
--- Numbers and words as bytes spell them.
+-- The words that bytes hold whole, one after another.
 use Rattle.std.proofs.Common.{◌≡◌, ℕ, suc, ◌/◌, ◌<◌, ◌≤◌, List, [], ◌∷◌, ◌++◌, length, take, drop, sym, refl, ap, ◌∙◌, subst, add_comm, add-one, arith}
 use Rattle.std.proofs.Math.Nat.{add-div_right, div-eq_of_lt}
 use Rattle.std.proofs.Math.Seq.{drop-append_seam, take-append_seam}
@@ -8,7 +8,6 @@ use Rattle.std.proofs.lemmas.Iterator.Splits.{YieldsList-from_shown_while}
 use Rattle.std.specs.Slice.Iter.{chunks_exact_rest, chunks_exact_size, chunks_exact_steps}
 use Rattle.jobs.specs.Words.{words_in, whole_words}
 
--- ---- the words that the bytes hold whole
 module _ {W : Type 0} (width : ℕ) (spelled : List ℕ → W) (some : 1 ≤ width) where
   -- of fewer bytes than a word has there are none
   no_word : (bytes : List ℕ) → length bytes < width → whole_words width spelled bytes ≡ []
