@@ -11,7 +11,7 @@ use formats::Format;
 use refusals::Refusal;
 
 // A whole number of steps, and whether cutting lost a part of a step. The number counts whether or not, so no enum of two
-// cases holds it.
+// cases holds it. That it is small is no ghost field: specs/ makes these values too, and would carry a proof in each.
 #[derive(Clone, Copy, Debug, PartialEq, Eq, Default)]
 pub struct Aligned {
     pub number: i64,

@@ -6,7 +6,7 @@ ghost use Rattle.jobs.specs.Trailer.{trailer_of, file_check};
 use crate::words::word_at;
 use refusals::Refusal;
 
-// The fields, as they stand in the file.
+// The fields, as they stand in the file: their codes may name nothing, and a `Plan` has the enums.
 #[derive(Clone, Copy)]
 pub struct Trailer {
     pub activations: u32,

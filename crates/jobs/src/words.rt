@@ -5,7 +5,7 @@ ghost use Rattle.std.proofs.Common.{lit≤};
 
 use std::alloc::{AllocError, Global};
 
-// A number of one, two or four bytes.
+// A number of one, two or four bytes. (Each has a `from_le_bytes` of its own in the library, and no trait has them all.)
 pub trait Word: Copy {
     ghost SIZE: { ℕ };
 
