@@ -1,19 +1,17 @@
 -- Where no call of a job is refused, its readings are those of the job's own terms, column by column.
-use Rattle.std.proofs.Common.{◌≡◌, ℕ, zero, suc, ◌+◌, ◌*◌, ◌<◌, ◌≤◌, true, List, ◌∷◌, ◌++◌, map, length, pos, ◌-ℤ◌, Some, None, Option, sym, refl, ap, ◌∙◌, arith, pow_pos}
+use Rattle.std.proofs.Common.{◌≡◌, ℕ, zero, suc, ◌+◌, ◌*◌, ◌<◌, ◌≤◌, true, List, ◌∷◌, ◌++◌, map, length, pos, ◌-ℤ◌, Some, None, Ok, Option, sym, refl, ap, ◌∙◌, arith, pow_pos}
 use Rattle.std.specs.List.{range_with_len, AllByRecursion}
 use Rattle.std.proofs.lemmas.Bool.{lt-leb}
 use Rattle.refusals.specs.declared.Refusal.{Refusal}
 use Rattle.refusals.specs.declared.Refusal.TheVariants.{NoSuchColumn}
-use Rattle.refusals.specs.Refusing.{refuse}
+use Rattle.refusals.specs.Refusing.{answer, refuse}
 use Rattle.sums.specs.Terms.{Term, total, slack}
 use Rattle.sums.proofs.Slack.{tells}
 use Rattle.alignment.specs.Tile.{Tile}
 use Rattle.runs.specs.declared.Reading.{Reading}
 use Rattle.runs.specs.State.{Row, figures}
 use Rattle.runs.specs.Log.{Log, fix, read, after, empty, raised, settled, with_rows, refusal, reading_of}
-use Rattle.calls.specs.declared.Answer.{Answer}
-use Rattle.calls.specs.declared.Answer.TheVariants.{Done, Read}
-use Rattle.calls.specs.Lists.{answered, answers_to, log_after}
+use Rattle.calls.specs.Lists.{Answer, answers_to, log_after}
 use Rattle.jobs.specs.declared.plan.Plan.{Plan}
 use Rattle.job_runs.specs.Parts.{job_setting, tile_count}
 use Rattle.job_runs.specs.Terms.{job_terms}
@@ -21,12 +19,13 @@ use Rattle.job_runs.specs.Events.{survey_of, feed_of, surveys, feeds, reads, job
 use Rattle.job_runs.specs.Readings.{first_refusal, readings, line_of, lines_from}
 use Rattle.job_runs.specs.Listing.{shared_of, job_step, job_line, Told}
 use Rattle.calls.proofs.Lists.{answers_append, log_append}
+use Rattle.job_runs.proofs.Counted.{map_same}
 use Rattle.job_runs.proofs.Answering.{none_append}
 use Rattle.job_runs.proofs.Surveying.{all_surveyed}
 use Rattle.job_runs.proofs.Feeding.{RowsFrom, all_fed}
 
 -- ---- answers that are no readings
-no_reading : (o : Option Refusal) (more : List Answer) → readings (answered o Done ∷ more) ≡ readings more
+no_reading : (o : Option Refusal) (more : List Answer) → readings (answer o None ∷ more) ≡ readings more
 no_reading None more = refl
 no_reading (Some r) more = refl
 
@@ -44,7 +43,7 @@ feeds_read l p words sheets tile (suc count) more =
 columns_read : (l : Log) (column count : ℕ) → column + count ≤ l.setting.columns → readings (answers_to l (map read (range_with_len column count))) ≡ map (reading_of l) (range_with_len column count)
 columns_read l column zero h = refl
 columns_read l column (suc count) h =
-    ap (λ b. readings (answered (refuse b NoSuchColumn) (Read (reading_of l column)) ∷ answers_to l (map read (range_with_len (column + 1) count)))) (lt-leb l.setting.columns column (omega arith))
+    ap (λ b. readings (answer (refuse b NoSuchColumn) (Some (reading_of l column)) ∷ answers_to l (map read (range_with_len (column + 1) count)))) (lt-leb l.setting.columns column (omega arith))
     ∙ ap (λ rs. reading_of l column ∷ rs) (columns_read l (column + 1) count (omega arith))
 
 reads_keep : (l : Log) (column count : ℕ) → log_after l (map read (range_with_len column count)) ≡ l
@@ -52,11 +51,6 @@ reads_keep l column zero = refl
 reads_keep l column (suc count) = reads_keep l (column + 1) count
 
 -- ---- lists by their columns
-map_same : {X : Type 0} (f g : ℕ → X) (a n : ℕ) → ((k : ℕ) → k < a + n → f k ≡ g k) → map f (range_with_len a n) ≡ map g (range_with_len a n)
-map_same f g a zero same = refl
-map_same f g a (suc n) same =
-    ap (λ x. x ∷ map f (range_with_len (a + 1) n)) (same a (omega arith)) ∙ ap (λ xs. g a ∷ xs) (map_same f g (a + 1) n (λ k h. same k (omega arith)))
-
 lines_map : (f : ℕ → Reading) (a n : ℕ) → lines_from a (map f (range_with_len a n)) ≡ map (λ c. line_of c (f c)) (range_with_len a n)
 lines_map f a zero = refl
 lines_map f a (suc n) = ap (λ ls. line_of a (f a) ∷ ls) (lines_map f (a + 1) n)
@@ -92,17 +86,17 @@ module _ (p : Plan) (words : Tile) (sheets : List ℕ) where
   abbrev pub reads_given : List Answer
   reads_given = answers_to fed_log (reads p.columns)
 
-  pub in_turn : job_answers p words sheets ≡ surveys_given ++ Done ∷ (feeds_given ++ reads_given)
+  pub in_turn : job_answers p words sheets ≡ surveys_given ++ Ok None ∷ (feeds_given ++ reads_given)
   in_turn =
       answers_append (empty (job_setting p)) (surveys words) _
-      ∙ ap (λ given. surveys_given ++ Done ∷ given) (answers_append (settled surveyed_log) (feeds p words sheets) (reads p.columns))
+      ∙ ap (λ given. surveys_given ++ Ok None ∷ given) (answers_append (settled surveyed_log) (feeds p words sheets) (reads p.columns))
 
   module _ (accepted : first_refusal (job_answers p words sheets) ≡ None) where
     enough : length words ≤ (0 + tile_count (length words)) * 128
     enough = omega arith
 
-    surveys_accepted : (first_refusal surveys_given ≡ None) × (first_refusal (Done ∷ (feeds_given ++ reads_given)) ≡ None)
-    surveys_accepted = none_append surveys_given (Done ∷ (feeds_given ++ reads_given)) (ap first_refusal (sym in_turn) ∙ accepted)
+    surveys_accepted : (first_refusal surveys_given ≡ None) × (first_refusal (Ok None ∷ (feeds_given ++ reads_given)) ≡ None)
+    surveys_accepted = none_append surveys_given (Ok None ∷ (feeds_given ++ reads_given)) (ap first_refusal (sym in_turn) ∙ accepted)
 
     surveyed_as : surveyed_log ≡ raised (empty (job_setting p)) words
     surveyed_as = all_surveyed (empty (job_setting p)) words 0 (tile_count (length words)) enough surveys_accepted.0
@@ -122,7 +116,7 @@ module _ (p : Plan) (words : Tile) (sheets : List ℕ) where
     pub job_readings : readings (job_answers p words sheets) ≡ map job_reading (range_with_len 0 p.columns)
     job_readings =
         ap readings in_turn
-        ∙ surveys_read (empty (job_setting p)) words 0 (tile_count (length words)) (Done ∷ (feeds_given ++ reads_given))
+        ∙ surveys_read (empty (job_setting p)) words 0 (tile_count (length words)) (Ok None ∷ (feeds_given ++ reads_given))
         ∙ feeds_read (settled surveyed_log) p words sheets 0 (tile_count (length words)) reads_given
         ∙ columns_read fed_log 0 p.columns (rw log_is (omega arith))
         ∙ map_same (reading_of fed_log) job_reading 0 p.columns (λ c h. reads_as c (omega arith))

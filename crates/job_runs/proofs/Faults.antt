@@ -1,6 +1,6 @@
 -- The first call of a job that is refused: the survey of the first word that is not finite, or else the feed of the first
 -- weight that the unit does not take.
-use Rattle.std.proofs.Common.{◌≡◌, ℕ, zero, suc, ◌+◌, ◌-◌, ◌*◌, ◌/◌, ◌%◌, ◌≤◌, min, false, List, [], ◌∷◌, ◌++◌, map, length, drop, ℤ, ◌≤ℤ◌, IfSome, Some, None, Option, sym, refl, ap, ◌∙◌, add-zero, arith}
+use Rattle.std.proofs.Common.{◌≡◌, ℕ, zero, suc, ◌+◌, ◌-◌, ◌*◌, ◌/◌, ◌%◌, ◌≤◌, min, false, List, [], ◌∷◌, ◌++◌, map, length, drop, ℤ, ◌≤ℤ◌, IfSome, Some, None, Ok, Option, sym, refl, ap, ◌∙◌, add-zero, arith}
 use lib.Signed.{lt_z}
 use Rattle.std.specs.List.{range_with_len, AllByRecursion}
 use Rattle.std.proofs.ByRecursion.{All-take, All-drop}
@@ -9,7 +9,7 @@ use Rattle.std.proofs.lemmas.Int.{ints}
 use Rattle.std.proofs.lemmas.Bool.{lt-leb, le-ltb}
 use Rattle.refusals.specs.declared.Refusal.{Refusal}
 use Rattle.refusals.specs.declared.Refusal.TheVariants.{NotFinite, AboveShared, WeightNotTakenAt, TooManyWords, NoSuchColumn}
-use Rattle.refusals.specs.Refusing.{refuse, first, unless}
+use Rattle.refusals.specs.Refusing.{answer, refuse, first, unless}
 use Rattle.refusals.proofs.Refusing.{none_some, first_assoc, first_none, same_behind}
 use Rattle.alignment.specs.Tile.{Tile, not_finite, survey_check, largest}
 use Rattle.alignment.specs.Cutting.{word_check}
@@ -20,22 +20,16 @@ use Rattle.runs.specs.Checks.{rows_check, feed_check}
 use Rattle.runs.specs.State.{rows_of}
 use Rattle.runs.specs.Log.{Log, Event, survey, fix, feed, read, clear, after, empty, raised, settled, with_rows, refusal, reading_of}
 use Rattle.runs.proofs.Tiles.{feed_in_rows}
-use Rattle.calls.specs.declared.Answer.{Answer}
-use Rattle.calls.specs.declared.Answer.TheVariants.{Done, Read}
-use Rattle.calls.specs.Lists.{answered, answers_to, log_after}
+use Rattle.calls.specs.Lists.{answers_to, log_after}
 use Rattle.jobs.specs.declared.plan.Plan.{Plan}
-use Rattle.job_runs.specs.Parts.{coding_of, job_setting, takes_of, tile_count, tile_at, tile_rows, page_at}
+use Rattle.jobs.specs.Survey.{coding_of}
+use Rattle.job_runs.specs.Parts.{job_setting, takes_of, tile_count, tile_at, tile_rows, page_at}
 use Rattle.job_runs.specs.Events.{survey_of, feed_of, surveys, feeds, job_answers}
 use Rattle.job_runs.specs.Readings.{first_refusal}
 use Rattle.job_runs.specs.Refused.{words_check, weights_of, weights_check, run_check}
-use Rattle.job_runs.proofs.Answering.{first_append}
+use Rattle.job_runs.proofs.Answering.{first_append, first_cons}
 use Rattle.job_runs.proofs.Surveying.{words_left, full_or_last, seam, all_surveyed}
 use Rattle.job_runs.proofs.Columns.{surveyed_log, fed_log, surveys_given, feeds_given, reads_given, in_turn}
-
--- the first refusal of a survey or a feed, and of the calls behind it
-first_answer : (o : Option Refusal) (given : List Answer) → first_refusal (answered o Done ∷ given) ≡ first o (first_refusal given)
-first_answer None given = refl
-first_answer (Some r) given = refl
 
 -- ---- a tile, and the words behind it
 tile_few : (words : Tile) (tile : ℕ) → length (tile_at words tile) ≤ 128
@@ -82,7 +76,7 @@ surveys_refused : (l : Log) (words : Tile) (tile count : ℕ) → length words �
     → first_refusal (answers_to l (map (survey_of words) (range_with_len tile count))) ≡ words_check (tile * 128) (drop (tile * 128) words)
 surveys_refused l words tile zero h = sym (ap (words_check (tile * 128)) (drop_all (tile * 128) words (omega arith)))
 surveys_refused l words tile (suc count) h =
-    first_answer (survey_check (tile_at words tile)) _
+    first_cons (survey_check (tile_at words tile)) None _
     ∙ ap (λ o. first o (first_refusal (answers_to (after l (survey_of words tile)) (map (survey_of words) (range_with_len (tile + 1) count))))) (survey_as words tile)
     ∙ ap (first (words_check (tile * 128) (tile_at words tile))) (surveys_refused (after l (survey_of words tile)) words (tile + 1) count (omega arith))
     ∙ sym (in_tiles words_check (λ a b. refl) words_append words tile)
@@ -161,7 +155,7 @@ module _ (p : Plan) (sheets : List ℕ) where
         let check = feed_check l.setting l.shared (length l.fed) here m in
         let is : check ≡ weights_check p sheets (tile * 128) here = ap (λ z. feed_check z l.shared (length l.fed) here m) set ∙ feed_as l.shared (length l.fed) tile up room in
         let room_left : length (l.fed ++ new) + (p.rows - (tile + 1) * 128) ≤ p.rows = omega (arith, length-append l.fed new, rows_few m 0 here, tile_size tile) in
-        first_answer check _
+        first_cons check None _
         ∙ same_behind check _ _ (λ ok. ap (λ o. first_refusal (answers_to (unless o l (with_rows l new)) more)) ok ∙ feeds_refused (with_rows l new) (tile + 1) count set up room_left (omega arith))
         ∙ ap (λ o. first o (weights_check p sheets ((tile + 1) * 128) (drop ((tile + 1) * 128) words))) is
         ∙ sym (in_tiles (weights_check p sheets) (λ a b. refl) weights_append words tile)
@@ -171,7 +165,7 @@ module _ (p : Plan) (sheets : List ℕ) where
 reads_accepted : (l : Log) (column count : ℕ) → column + count ≤ l.setting.columns → first_refusal (answers_to l (map read (range_with_len column count))) ≡ None
 reads_accepted l column zero h = refl
 reads_accepted l column (suc count) h =
-    ap (λ b. first_refusal (answered (refuse b NoSuchColumn) (Read (reading_of l column)) ∷ answers_to l (map read (range_with_len (column + 1) count)))) (lt-leb l.setting.columns column (omega arith))
+    ap (λ b. first_refusal (answer (refuse b NoSuchColumn) (Some (reading_of l column)) ∷ answers_to l (map read (range_with_len (column + 1) count)))) (lt-leb l.setting.columns column (omega arith))
     ∙ reads_accepted l (column + 1) count (omega arith)
 
 -- ---- the setting
@@ -218,6 +212,6 @@ module _ (p : Plan) (words : Tile) (sheets : List ℕ) (sized : length words ≡
       let given = feeds_given p words sheets in
       let last = reads_given p words sheets in
       ap first_refusal (in_turn p words sheets)
-      ∙ first_append (surveys_given p words sheets) (Done ∷ (given ++ last))
+      ∙ first_append (surveys_given p words sheets) (Ok None ∷ (given ++ last))
       ∙ ap (λ o. first o (first_refusal (given ++ last))) surveys_as
       ∙ same_behind (words_check 0 words) _ _ (λ finite. first_append given last ∙ ap (first (first_refusal given)) reads_as ∙ first_none (first_refusal given) ∙ feeds_as finite)

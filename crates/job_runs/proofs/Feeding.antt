@@ -11,7 +11,6 @@ use Rattle.sheets.specs.Page.{Page, line}
 use Rattle.runs.specs.Checks.{row_check, rows_check, feed_check}
 use Rattle.runs.specs.State.{Row, rows_of}
 use Rattle.runs.specs.Log.{Log, after, with_rows, term_at}
-use Rattle.calls.specs.declared.Answer.TheVariants.{Done}
 use Rattle.calls.specs.Lists.{answers_to, log_after}
 use Rattle.jobs.specs.declared.plan.Plan.{Plan}
 use Rattle.job_runs.specs.Parts.{tile_at, page_at}
@@ -93,7 +92,7 @@ module _ (p : Plan) (sheets : List ℕ) where
       let m = page_at p sheets tile in
       let new = rows_of m 0 (tile_at words tile) in
       let check = feed_check l.setting l.shared (length l.fed) (tile_at words tile) m in
-      let ok = none_cons check Done _ e in
+      let ok = none_cons check None _ e in
       let next : after l (feed_of p words sheets tile) ≡ with_rows l new = ap (λ o. unless o l (with_rows l new)) ok.0 in
       let rest = all_fed (after l (feed_of p words sheets tile)) words (tile + 1) count (omega arith) ok.1 in
       let accepted = (passes l.setting l.shared (length l.fed) (tile_at words tile) m ok.0).each in (

@@ -14,15 +14,7 @@ use Rattle.jobs.specs.declared.plan.Plan.{Plan}
 use Rattle.jobs.specs.Plan.{sheet_bytes, weight_bytes}
 use Rattle.job_runs.specs.Parts.{tile_count, tile_at, tile_rows, front_page, page_at}
 use Rattle.job_runs.specs.Events.{survey_of, feed_of, surveys, feeds}
-
--- ---- lists counted on
-map_on : {X : Type 0} (f : ℕ → X) (a n : ℕ) → map f (range_with_len (a + 1) n) ≡ map (λ k. f (k + 1)) (range_with_len a n)
-map_on f a zero = refl
-map_on f a (suc n) = ap (λ xs. f (a + 1) ∷ xs) (map_on f (a + 1) n)
-
-map_each : {X : Type 0} (f g : ℕ → X) → ((k : ℕ) → f k ≡ g k) → (a n : ℕ) → map f (range_with_len a n) ≡ map g (range_with_len a n)
-map_each f g same a zero = refl
-map_each f g same a (suc n) = ap (λ x. x ∷ map f (range_with_len (a + 1) n)) (same a) ∙ ap (λ xs. g a ∷ xs) (map_each f g same (a + 1) n)
+use Rattle.job_runs.proofs.Counted.{map_same, map_on}
 
 -- ---- a plan with so many rows
 abbrev pub sized : Plan → ℕ → Plan
@@ -83,7 +75,7 @@ module _ (tile more : Tile) (some : 0 < length tile) (size : length tile ≡ min
       ap (λ n. map (survey_of (tile ++ more)) (range_with_len 0 n)) one_tile
       ∙ ap (λ ws. survey ws ∷ map (survey_of (tile ++ more)) (range_with_len 1 (tile_count (length more)))) front
       ∙ ap (λ es. survey tile ∷ es) (map_on (survey_of (tile ++ more)) 0 (tile_count (length more))
-      ∙ map_each (λ t. survey_of (tile ++ more) (t + 1)) (survey_of more) (λ t. ap survey (next_tile t)) 0 (tile_count (length more)))
+      ∙ map_same (λ t. survey_of (tile ++ more) (t + 1)) (survey_of more) 0 (tile_count (length more)) (λ t h. ap survey (next_tile t)))
 
   module _ (p : Plan) (sheets : List ℕ) where
     first_page : page_at (sized p (length (tile ++ more))) sheets 0 ≡ front_page p (length tile) sheets
@@ -111,7 +103,7 @@ module _ (tile more : Tile) (some : 0 < length tile) (size : length tile ≡ min
     behind [] e = let none = ap (λ ws. tile_count (length ws)) e in ap (λ n. map here (range_with_len 0 n)) none ∙ sym (ap (λ n. map there (range_with_len 0 n)) none)
     behind (w ∷ rest) e =
         let full : length tile ≡ 128 = omega (arith, long, ap length e) in
-        map_each here there (λ t. ap (λ ws. feed ws (page_at (sized p (length (tile ++ more))) sheets (t + 1))) (next_tile t) ∙ ap (feed (tile_at more t)) (next_page full t)) 0 (tile_count (length more))
+        map_same here there 0 (tile_count (length more)) (λ t h. ap (λ ws. feed ws (page_at (sized p (length (tile ++ more))) sheets (t + 1))) (next_tile t) ∙ ap (feed (tile_at more t)) (next_page full t))
 
     -- the first feed, and those behind it
     pub feeds_step : feeds (sized p (length (tile ++ more))) (tile ++ more) sheets ≡ feed tile (front_page p (length tile) sheets) ∷ feeds (sized p (length more)) more (drop (sheet_bytes p (length tile)) sheets)

@@ -1,3 +1,4 @@
+pub mod Counted
 pub mod Answering
 pub mod Surveying
 pub mod Feeding
@@ -5,7 +6,5 @@ pub mod Columns
 pub mod Faults
 pub mod Placing
 pub mod Left
-pub mod Telling
 pub mod Worked
-pub mod Opened
 pub mod Planned

@@ -8,7 +8,7 @@ use Rattle.refusals.specs.declared.Refusal.TheVariants.{UnknownCode}
 use Rattle.columns.specs.Columns.{columns_check}
 use Rattle.refusals.specs.Refusing.{first, Made}
 use Rattle.refusals.proofs.Refusing.{passed, both_passed, first_refuses, first_passes, was_made, was_refused, made, unmade}
-use Rattle.alignment.specs.Tile.{extra_check}
+use Rattle.alignment.specs.Tile.{Tile, tile_of, extra_check}
 use Rattle.sheets.specs.Code.{coded, sheet_codes, sheet_number}
 use Rattle.sheets.specs.Making.{planes_check}
 use Rattle.listing.specs.declared.Listing.{Listing}
@@ -20,14 +20,20 @@ use Rattle.jobs.specs.declared.plan.Plan.{Plan}
 use Rattle.jobs.specs.declared.trailer.Trailer.{Trailer}
 use Rattle.jobs.specs.Activations.{format_of, held_words, section_words}
 use Rattle.jobs.specs.Codes.{format_codes, format_number, unit_codes, unit_number, word_bytes}
+use Rattle.jobs.specs.declared.error.JobError.{JobError}
+use Rattle.jobs.specs.declared.error.JobError.TheVariants.{Refused, Memory}
+use Rattle.jobs.specs.Error.{MadeInMemory}
 use Rattle.jobs.specs.Job.{job_check, JobOf, trailer_check}
 use Rattle.jobs.specs.Plan.{with_some, plan_of, plan_check, unknown, activation_bytes, weight_bytes}
+use Rattle.jobs.specs.Survey.{coding_of}
 use Rattle.jobs.specs.Trailer.{trailer_of}
 use Rattle.jobs.specs.Words.{little, words_in}
-use Rattle.job_runs.specs.Parts.{Fair, coding_of, words_of, file_words, file_sheets}
+use Rattle.jobs.proofs.Heading.{one_each}
+use Rattle.job_runs.specs.declared.material.Material.{Material}
+use Rattle.job_runs.specs.Parts.{Fair, words_of, file_words, file_sheets}
 use Rattle.job_runs.specs.Events.{job_answers}
 use Rattle.job_runs.specs.Readings.{first_refusal}
-use Rattle.job_runs.specs.Listing.{Lists, ListingOf, listing_check}
+use Rattle.job_runs.specs.Listing.{Lists, ListedAs, ListingOf, listing_check}
 use Rattle.job_runs.specs.Refused.{run_check}
 use Rattle.job_runs.proofs.Faults.{refused_as}
 
@@ -36,27 +42,21 @@ pub words_long : {W : Type 0} (width : ℕ) (spelled : List ℕ → W) (n : ℕ)
 words_long width spelled zero bytes = refl
 words_long width spelled (suc n) bytes = ap suc (words_long width spelled n (drop width bytes))
 
--- as many whole words as there are rows
-whole : (f : FormatCode) (rows n : ℕ) → n ≡ rows * word_bytes f → n / word_bytes f ≡ rows
-whole Binary16 rows n e = omega (arith, e)
-whole Bfloat16 rows n e = omega (arith, e)
-whole Binary32 rows n e = omega (arith, e)
-whole Fixed8 rows n e = omega (arith, e)
+-- the words that the section of a plan holds are as many as its rows
+pub as_many : (p : Plan) (bytes : List ℕ) → length bytes ≡ activation_bytes p → (ws : List ℕ) → ws ≡ section_words p.format bytes → length ws ≡ p.rows
+as_many p bytes long ws words = ap length (words ∙ one_each p bytes long) ∙ words_long (word_bytes p.format) little p.rows bytes
 
--- the words ws of a code, which are those that the section of a plan holds
-module _ (p : Plan) (bytes : List ℕ) (long : length bytes ≡ activation_bytes p) (a : Activations) (format : format_of a ≡ p.format) (words : held_words a ≡ section_words p.format bytes)
-    (code : FormatCode) (ws : List ℕ) (is_code : format_of a ≡ code) (is_words : held_words a ≡ ws) where
-  one_each : ws ≡ words_in (word_bytes p.format) little p.rows bytes
-  one_each = sym is_words ∙ words ∙ ap (λ n. words_in (word_bytes p.format) little n bytes) (whole p.format p.rows (length bytes) long)
-
-  pub as_many : length ws ≡ p.rows
-  as_many = ap length one_each ∙ words_long (word_bytes p.format) little p.rows bytes
-
-  same_format : code ≡ p.format
-  same_format = sym is_code ∙ format
-
-  pub same_least : (coding_of code).least ≡ (coding_of p.format).least
-  same_least = ap (λ f. (coding_of f).least) same_format
+-- the listing of such words, by their code, is that of the section
+pub same_listed : (job : Job) (code : FormatCode) (m : Material ℕ) (r : Result Listing JobError) → length job.activations.bytes.now ≡ activation_bytes job.plan
+    → code ≡ job.plan.format → m.plan ≡ job.plan → m.words.now ≡ section_words job.plan.format job.activations.bytes.now → m.weights.now ≡ job.weights.bytes.now
+    → ListedAs m.plan (tile_of (coding_of code) m.words.now) m.weights.now r → ListedAs job.plan (words_of job.plan job.activations.bytes.now) job.weights.bytes.now r
+same_listed job code m r long format plan words weights listed =
+    let p = job.plan in
+    let decoded : tile_of (coding_of code) m.words.now ≡ words_of p job.activations.bytes.now =
+    ap (λ f. tile_of (coding_of f) m.words.now) format ∙ ap (tile_of (coding_of p.format)) (words ∙ one_each p job.activations.bytes.now long) in
+    subst (λ (sheets : List ℕ). ListedAs p (words_of p job.activations.bytes.now) sheets r) weights
+    (subst (λ (ws : Tile). ListedAs p ws m.weights.now r) decoded
+    (subst (λ (q : Plan). ListedAs q (tile_of (coding_of code) m.words.now) m.weights.now r) plan listed))
 
 -- ---- the plan
 with_some_parts : {A B : Type 0} (o : Option A) (f : A → Option B) (y : B) → with_some o f ≡ Some y → (x : A) × (o ≡ Some x) × (f x ≡ Some y)
@@ -104,6 +104,14 @@ few_rows t e = ltb-false 4096 t.rows (last (not (eqb t.mark 0x54)) (not (is_some
     last false true true e = e
     last false false true e = e
 
+-- what was made, within memory, has what follows from its own
+made_as : {X : Type 0} (o : Option Refusal) (P Q : X → Type 0) → ((x : X) → P x → Q x) → (r : Result X JobError) → MadeInMemory o P r → MadeInMemory o Q r
+made_as None P Q so (Ok x) m = so x m
+made_as (Some check) P Q so (Ok x) m = m
+made_as None P Q so (Err (Refused e)) m = m
+made_as (Some check) P Q so (Err (Refused e)) m = m
+made_as o P Q so (Err (Memory e)) m = tt
+
 -- ---- a job that was read
 module _ (file : List ℕ) (job : Job) (read : Made (job_check file) (JobOf file) (Ok job)) where
   accepted : job_check file ≡ None
@@ -133,10 +141,11 @@ module _ (file : List ℕ) (job : Job) (read : Made (job_check file) (JobOf file
   rows_few = omega (arith, parts.rows, few_rows (trailer_of file) known.0)
 
   -- the sections hold what the file does
-  pub read_listed : (r : Result Listing Refusal)
-      → Made (first_refusal (job_answers job.plan (words_of job.plan job.activations.bytes.now) job.weights.bytes.now)) (Lists job.plan (words_of job.plan job.activations.bytes.now) job.weights.bytes.now) r
-      → Made (listing_check file) (ListingOf file) r
-  read_listed r m = by r in_file
+  pub read_listed : (r : Result Listing JobError) → ListedAs job.plan (words_of job.plan job.activations.bytes.now) job.weights.bytes.now r → MadeInMemory (listing_check file) (ListingOf file) r
+  read_listed r m =
+      made_as (listing_check file) (Lists job.plan (file_words file job.plan) (file_sheets file job.plan)) (ListingOf file)
+      (λ listing lists q is. subst (λ (x : Plan). Lists x (file_words file x) (file_sheets file x) listing) (one_plan q is) lists)
+      r (subst (λ o. MadeInMemory o (Lists job.plan (file_words file job.plan) (file_sheets file job.plan)) r) (sym checked) in_file)
     where
       long : length (file_words file job.plan) ≡ job.plan.rows
       long = length-map _ (coding_of job.plan.format).decode ∙ words_long (word_bytes job.plan.format) little job.plan.rows _
@@ -146,19 +155,13 @@ module _ (file : List ℕ) (job : Job) (read : Made (job_check file) (JobOf file
           first_passes _ accepted ∙ ap (λ o. with_some o (λ q. run_check q (file_words file q) (file_sheets file q))) holds.plan
           ∙ sym (refused_as job.plan (file_words file job.plan) (file_sheets file job.plan) long rows_few)
 
-      in_file : Made (first_refusal (job_answers job.plan (file_words file job.plan) (file_sheets file job.plan))) (Lists job.plan (file_words file job.plan) (file_sheets file job.plan)) r
+      in_file : ListedAs job.plan (file_words file job.plan) (file_sheets file job.plan) r
       in_file =
-          subst (λ (sheets : List ℕ). Made (first_refusal (job_answers job.plan (file_words file job.plan) sheets)) (Lists job.plan (file_words file job.plan) sheets) r) holds.weights.holds
-          (subst (λ (bytes : List ℕ). Made (first_refusal (job_answers job.plan (words_of job.plan bytes) job.weights.bytes.now)) (Lists job.plan (words_of job.plan bytes) job.weights.bytes.now) r) holds.activations.holds m)
+          subst (λ (sheets : List ℕ). ListedAs job.plan (file_words file job.plan) sheets r) holds.weights.holds
+          (subst (λ (bytes : List ℕ). ListedAs job.plan (words_of job.plan bytes) job.weights.bytes.now r) holds.activations.holds m)
 
       one_plan : (q : Plan) → plan_of (trailer_of file) ≡ Some q → job.plan ≡ q
       one_plan q is = let same : Some job.plan ≡ Some q = sym holds.plan ∙ is in cc
-
-      by : (r : Result Listing Refusal) → Made (first_refusal (job_answers job.plan (file_words file job.plan) (file_sheets file job.plan))) (Lists job.plan (file_words file job.plan) (file_sheets file job.plan)) r → Made (listing_check file) (ListingOf file) r
-      by (Ok listing) m =
-          let ok = was_made (first_refusal (job_answers job.plan (file_words file job.plan) (file_sheets file job.plan))) _ listing m in
-          made (listing_check file) (ListingOf file) listing (checked ∙ ok.0) (λ q is. subst (λ (x : Plan). Lists x (file_words file x) (file_sheets file x) listing) (one_plan q is) ok.1)
-      by (Err e) m = unmade (listing_check file) (ListingOf file) e (checked ∙ was_refused (first_refusal (job_answers job.plan (file_words file job.plan) (file_sheets file job.plan))) _ e m)
 
 -- a file that holds no job
 pub no_job : (file : List ℕ) (e : Refusal) → Made (job_check file) (JobOf file) (Err e) → Made (listing_check file) (ListingOf file) (Err e)

@@ -6,7 +6,6 @@ use Rattle.std.proofs.lemmas.List.{take-append-drop, drop-drop, drop_all, length
 use Rattle.refusals.specs.Refusing.{unless}
 use Rattle.alignment.specs.Tile.{Tile, survey_check, largest}
 use Rattle.runs.specs.Log.{Log, after, raised}
-use Rattle.calls.specs.declared.Answer.TheVariants.{Done}
 use Rattle.calls.specs.Lists.{answers_to, log_after}
 use Rattle.job_runs.specs.Parts.{tile_at}
 use Rattle.job_runs.specs.Events.{survey_of}
@@ -44,7 +43,7 @@ pub all_surveyed : (l : Log) (words : Tile) (tile count : ℕ) → length words 
     → log_after l (map (survey_of words) (range_with_len tile count)) ≡ raised l (drop (tile * 128) words)
 all_surveyed l words tile zero h e = ap (raised l) (sym (drop_all (tile * 128) words (omega arith)))
 all_surveyed l words tile (suc count) h e =
-    let ok = none_cons (survey_check (tile_at words tile)) Done _ e in
+    let ok = none_cons (survey_check (tile_at words tile)) None _ e in
     let now = ap (λ o. unless o l (raised l (tile_at words tile))) ok.0 in
     let rest = all_surveyed (after l (survey_of words tile)) words (tile + 1) count (omega arith) ok.1 in
     rest

@@ -10,23 +10,26 @@ use Rattle.refusals.specs.Refusing.{Made}
 use Rattle.refusals.proofs.Refusing.{made, unmade}
 use Rattle.formats.specs.Coding.{Coding}
 use Rattle.alignment.specs.Tile.{Tile, tile_of}
-use Rattle.sheets.specs.declared.any.AnySheet.{AnySheet}
-use Rattle.sheets.specs.Meanings.{any_meaning}
+
+use Rattle.sheets.specs.Meanings.{AnySheet, any_meaning}
 use Rattle.units.specs.Meaning.{Meaning}
 use Rattle.runs.specs.declared.Reading.{Reading}
 use Rattle.runs.specs.Checks.{Setting, setting}
 use Rattle.runs.specs.Log.{Event, empty}
-use Rattle.calls.specs.declared.Answer.{Answer}
+use Rattle.runs.specs.State.{State}
 use Rattle.calls.specs.declared.Call.{Call}
-use Rattle.calls.specs.declared.Misplaced.{Misplaced}
+use Rattle.calls.specs.declared.error.Misplaced.{Misplaced}
+use Rattle.calls.specs.declared.error.WorkError.{WorkError}
+use Rattle.calls.specs.declared.error.WorkError.TheVariants as error
 use Rattle.calls.specs.declared.Opening.{Opening}
 use Rattle.calls.specs.declared.Run.{Run}
 use Rattle.calls.specs.declared.Run.TheVariants as run
 use Rattle.calls.specs.declared.Worked.{Worked}
-use Rattle.calls.specs.Lists.{misplaced}
+use Rattle.calls.specs.Lists.{Answer, misplaced}
 use Rattle.calls.specs.Work.{WorkedAs, WorkBy, WorkOf, is_aligned, opened_log, state_of}
 use Rattle.listing.specs.declared.Line.{Line}
 use Rattle.jobs.specs.declared.plan.Plan.{Plan}
+use Rattle.job_runs.specs.declared.material.Material.{Material}
 use Rattle.job_runs.specs.Parts.{Fair, job_setting}
 use Rattle.job_runs.specs.Events.{events_of, job_events, job_answers}
 use Rattle.job_runs.specs.Readings.{first_refusal, readings, lines_from}
@@ -34,63 +37,66 @@ use Rattle.job_runs.specs.Listing.{Told, Lists}
 use Rattle.job_runs.proofs.Columns.{job_reading, job_readings, job_lines, lines_tell, last_shared, last_aligned}
 use Rattle.job_runs.proofs.Placing.{none_misplaced}
 
-stage_is : {F U W : Type 0} (coding : F → Coding W) (meaning : U → Meaning) (r : Run F U) → is_aligned r ≡ (state_of coding meaning r).aligned
-stage_is coding meaning (run.Surveying r) = refl
-stage_is coding meaning (run.Aligned r) = refl
-
 few : (columns : ℕ) → columns_check columns ≡ None → columns ≤ 16
 few columns ok = grind (arith, nat_tests)
 
-module _ {F U W : Type 0} (coding : F → Coding W) (meaning : U → Meaning) (o : Opening F U) (p : Plan) (words : List W) (sheets : List ℕ) (calls : List (Call W AnySheet))
-    (asked : events_of (coding o.format) calls ≡ job_events p (tile_of (coding o.format) words) sheets)
-    (opened : setting (coding o.format).least o.extra.bits (meaning o.unit) ≡ job_setting p) where
-  abbrev tile : Tile
-  tile = tile_of (coding o.format) words
+pub stage_is : {F U W : Type 0} (coding : F → Coding W) (meaning : U → Meaning) (r : Run F U) → is_aligned r ≡ (state_of coding meaning r).aligned
+stage_is coding meaning (run.Surveying r) = refl
+stage_is coding meaning (run.Aligned r) = refl
 
-  placed : misplaced 0 false (events_of (coding o.format) calls) ≡ None
-  placed = ap (misplaced 0 false) asked ∙ none_misplaced p tile sheets
+-- the calls of a job were worked, with these answers, and left a run at s
+pub record JobWorked (p : Plan) (words : Tile) (sheets : List ℕ) (given : List Answer) (s : State) : Type 0 where
+  worked : WorkedAs (empty (job_setting p)) (job_events p words sheets) given s
 
-  pub never_misplaced : (r : Result (Worked F U) Misplaced) (m : Misplaced) → r ≡ Err m → WorkOf coding meaning any_meaning o calls r → ⊥
-  never_misplaced r m is w =
-      subst (λ q. WorkBy coding meaning (opened_log coding meaning o) (events_of (coding o.format) calls) q (Err m)) placed
-      (subst (λ (x : Result (Worked F U) Misplaced). WorkOf coding meaning any_meaning o calls x) is w)
+-- calls that a job asks for, on a run that is opened as its plan says
+module _ {F U W : Type 0} (coding : F → Coding W) (meaning : U → Meaning) (o : Opening F U) (m : Material W) (calls : List (Call W AnySheet))
+    (asked : events_of (coding o.format) calls ≡ job_events m.plan (tile_of (coding o.format) m.words.now) m.weights.now)
+    (opened : setting (coding o.format).least o.extra.bits (meaning o.unit) ≡ job_setting m.plan) where
+  abbrev words : Tile
+  words = tile_of (coding o.format) m.words.now
 
-  module _ (r : Result (Worked F U) Misplaced) (w : Worked F U) (is : r ≡ Ok w) (works : WorkOf coding meaning any_meaning o calls r) where
-    as_worked : WorkedAs (empty (job_setting p)) (job_events p tile sheets) (vec_items w.answers) (state_of coding meaning w.run)
-    as_worked =
-        subst (λ (es : List Event). WorkedAs (empty (job_setting p)) es (vec_items w.answers) (state_of coding meaning w.run)) asked
-        (subst (λ (z : Setting). WorkedAs (empty z) (events_of (coding o.format) calls) (vec_items w.answers) (state_of coding meaning w.run)) opened
-        (subst (λ q. WorkBy coding meaning (opened_log coding meaning o) (events_of (coding o.format) calls) q (Ok w)) placed
-        (subst (λ (x : Result (Worked F U) Misplaced). WorkOf coding meaning any_meaning o calls x) is works)))
+  placed_so : (r : Result (Worked F U) WorkError) → WorkOf coding meaning any_meaning o calls r → WorkBy coding meaning (opened_log coding meaning o) (events_of (coding o.format) calls) None r
+  placed_so r works =
+      let placed = ap (misplaced 0 false) asked ∙ none_misplaced m.plan words m.weights.now in
+      subst (λ q. WorkBy coding meaning (opened_log coding meaning o) (events_of (coding o.format) calls) q r) placed works
 
-    module _ (given : List Answer) (all : given ≡ vec_items w.answers) where
-      firsts : first_refusal (job_answers p tile sheets) ≡ first_refusal given
-      firsts = ap first_refusal (sym (all ∙ as_worked.answers))
+  pub never_misplaced : (e : WorkError) (at : Misplaced) → e ≡ error.Misplaced at → WorkOf coding meaning any_meaning o calls (Err e) → ⊥
+  never_misplaced e at is works = placed_so (Err (error.Misplaced at)) (subst (λ (x : WorkError). WorkOf coding meaning any_meaning o calls (Err x)) is works)
 
-      pub job_refused : (e : Refusal) → first_refusal given ≡ Some e → Made (first_refusal (job_answers p tile sheets)) (Lists p tile sheets) (Err e)
-      job_refused e why = unmade (first_refusal (job_answers p tile sheets)) _ e (firsts ∙ why)
+  pub job_worked : (w : Worked F U) → WorkOf coding meaning any_meaning o calls (Ok w) → (given : List Answer) → given ≡ vec_items w.answers
+      → JobWorked m.plan words m.weights.now given (state_of coding meaning w.run)
+  job_worked w works given all = record {
+    worked =
+        subst (λ (es : List Event). WorkedAs (empty (job_setting m.plan)) es given (state_of coding meaning w.run)) asked
+        (subst (λ (z : Setting). WorkedAs (empty z) (events_of (coding o.format) calls) given (state_of coding meaning w.run)) opened
+        (subst (λ (answers : List Answer). WorkedAs (opened_log coding meaning o) (events_of (coding o.format) calls) answers (state_of coding meaning w.run)) (sym all) (placed_so (Ok w) works)));
+  }
 
-      module _ (accepted : first_refusal given ≡ None) where
-        none : first_refusal (job_answers p tile sheets) ≡ None
-        none = firsts ∙ accepted
+module _ {p : Plan} {words : Tile} {sheets : List ℕ} {given : List Answer} {s : State} (job : JobWorked p words sheets given s) where
+  firsts : first_refusal (job_answers p words sheets) ≡ first_refusal given
+  firsts = ap first_refusal (sym job.worked.answers)
 
-        pub aligned_then : is_aligned w.run ≡ true
-        aligned_then = stage_is coding meaning w.run ∙ as_worked.holds.stage ∙ last_aligned p tile sheets none
+  module _ (accepted : first_refusal given ≡ None) where
+    none : first_refusal (job_answers p words sheets) ≡ None
+    none = firsts ∙ accepted
 
-        module _ (rs : List Reading) (read : rs ≡ readings given) where
-          same : readings given ≡ readings (job_answers p tile sheets)
-          same = ap readings (all ∙ as_worked.answers)
+    pub aligned_then : s.aligned ≡ true
+    aligned_then = job.worked.holds.stage ∙ last_aligned p words sheets none
 
-          pub few_readings : Fair p → length rs ≤ 16
-          few_readings fair =
-              omega (arith, few p.columns fair.columns, ap length (read ∙ same ∙ job_readings p tile sheets none), length-map-range_with_len (job_reading p tile sheets) 0 p.columns)
+    module _ (rs : List Reading) (read : rs ≡ readings given) where
+      same : rs ≡ readings (job_answers p words sheets)
+      same = read ∙ ap readings job.worked.answers
 
-          pub job_listed : (shared : ℤ) → shared ≡ (state_of coding meaning w.run).shared → (lines : Vec Line Global) → vec_items lines ≡ lines_from 0 rs
-              → Made (first_refusal (job_answers p tile sheets)) (Lists p tile sheets) (Ok (record { header = record { rows = p.rows; shared = shared; extra = p.extra }; lines = lines }))
-          job_listed shared is_shared lines is-lines =
-              let ours = is-lines ∙ ap (lines_from 0) (read ∙ same) ∙ job_lines p tile sheets none in
-              made (first_refusal (job_answers p tile sheets)) _ _ none (record {
-                headed = ap (λ (z : ℤ). record { rows = p.rows; shared = z; extra = p.extra }) (is_shared ∙ as_worked.holds.shared ∙ last_shared p tile sheets none);
-                lines = ours;
-                told = subst (λ (ls : List Line). AllByRecursion (Told p tile sheets) ls) (sym ours) (lines_tell p tile sheets 0 p.columns);
-              })
+      pub few_readings : Fair p → length rs ≤ 16
+      few_readings fair =
+          omega (arith, few p.columns fair.columns, ap length (same ∙ job_readings p words sheets none), length-map-range_with_len (job_reading p words sheets) 0 p.columns)
+
+      pub job_listed : (shared : ℤ) → shared ≡ s.shared → (lines : Vec Line Global) → vec_items lines ≡ lines_from 0 rs
+          → Made (first_refusal (job_answers p words sheets)) (Lists p words sheets) (Ok (record { header = record { rows = p.rows; shared = shared; extra = p.extra }; lines = lines }))
+      job_listed shared is_shared lines is-lines =
+          let lined = is-lines ∙ ap (lines_from 0) same ∙ job_lines p words sheets none in
+          made (first_refusal (job_answers p words sheets)) _ _ none (record {
+            headed = ap (λ (z : ℤ). record { rows = p.rows; shared = z; extra = p.extra }) (is_shared ∙ job.worked.holds.shared ∙ last_shared p words sheets none);
+            lines = lined;
+            told = subst (λ (ls : List Line). AllByRecursion (Told p words sheets) ls) (sym lined) (lines_tell p words sheets 0 p.columns);
+          })

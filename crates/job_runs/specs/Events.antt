@@ -3,12 +3,10 @@ use Rattle.std.specs.Prelude.{ℕ, List, ◌∷◌, ◌++◌, map, length}
 use Rattle.std.specs.List.{range_with_len}
 use Rattle.formats.specs.Coding.{Coding}
 use Rattle.alignment.specs.Tile.{Tile}
-use Rattle.sheets.specs.declared.any.AnySheet.{AnySheet}
-use Rattle.sheets.specs.Meanings.{any_meaning}
+use Rattle.sheets.specs.Meanings.{AnySheet, any_meaning}
 use Rattle.runs.specs.Log.{Event, survey, fix, feed, read, empty}
-use Rattle.calls.specs.declared.Answer.{Answer}
 use Rattle.calls.specs.declared.Call.{Call}
-use Rattle.calls.specs.Lists.{answers_to}
+use Rattle.calls.specs.Lists.{Answer, answers_to}
 use Rattle.calls.specs.Work.{event_of}
 use Rattle.jobs.specs.declared.plan.Plan.{Plan}
 use Rattle.job_runs.specs.Parts.{job_setting, tile_count, tile_at, page_at}

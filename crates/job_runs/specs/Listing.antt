@@ -1,5 +1,5 @@
 -- What a file is listed as: why it is refused, or its header and a line for each column.
-use Rattle.std.specs.Prelude.{◌≡◌, ℕ, List, map, ℤ, pos, ◌-ℤ◌, Some, vec_items, Option}
+use Rattle.std.specs.Prelude.{◌≡◌, ℕ, List, map, ℤ, pos, ◌-ℤ◌, Some, vec_items, Option, Result}
 use Rattle.std.specs.List.{range_with_len, AllByRecursion}
 use Rattle.refusals.specs.declared.Refusal.{Refusal}
 use Rattle.refusals.specs.Refusing.{first}
@@ -9,12 +9,17 @@ use Rattle.alignment.specs.Tile.{Tile, largest}
 use Rattle.rounding.specs.Word.{nearest_word}
 use Rattle.listing.specs.declared.Header.{Header}
 use Rattle.jobs.specs.declared.plan.Plan.{Plan}
+use Rattle.jobs.specs.declared.error.JobError.{JobError}
+use Rattle.jobs.specs.Error.{MadeInMemory}
 use Rattle.jobs.specs.Job.{job_check}
 use Rattle.jobs.specs.Plan.{with_some, plan_of}
+use Rattle.jobs.specs.Survey.{coding_of}
 use Rattle.jobs.specs.Trailer.{trailer_of}
 use Rattle.listing.specs.declared.Line.{Line}
 use Rattle.listing.specs.declared.Listing.{Listing}
-use Rattle.job_runs.specs.Parts.{coding_of, file_words, file_sheets}
+use Rattle.job_runs.specs.Parts.{file_words, file_sheets}
+use Rattle.job_runs.specs.Events.{job_answers}
+use Rattle.job_runs.specs.Readings.{first_refusal}
 use Rattle.job_runs.specs.Terms.{job_terms}
 use Rattle.job_runs.specs.Refused.{run_check}
 
@@ -49,6 +54,10 @@ pub record Lists (p : Plan) (words : Tile) (sheets : List ℕ) (listing : Listin
   pub headed : listing.header ≡ job_header p words
   pub lines : vec_items listing.lines ≡ map (job_line p words sheets) (range_with_len 0 p.columns)
   pub told : AllByRecursion (Told p words sheets) (vec_items listing.lines)
+
+-- what listing a job answers: the first refusal among the answers to its calls, or else its listing, unless memory runs out
+abbrev pub ListedAs : Plan → Tile → List ℕ → Result Listing JobError → Type 0
+ListedAs p words sheets = MadeInMemory (first_refusal (job_answers p words sheets)) (Lists p words sheets)
 
 -- the listing of the plan that the file's trailer asks for
 abbrev pub ListingOf : List ℕ → Listing → Type 0

@@ -1,33 +1,22 @@
 -- The parts of a job: how its run is opened, its words, and its tiles of 128 rows with their sheets.
-use Rattle.std.specs.Prelude.{◌≡◌, ℕ, ◌+◌, ◌-◌, ◌*◌, ◌/◌, min, Bool, List, take, drop, ℤ, pos, None}
+use Rattle.std.specs.Prelude.{◌≡◌, ℕ, ◌+◌, ◌-◌, ◌*◌, ◌/◌, min, Bool, List, take, drop, ℤ, None}
 use Rattle.columns.specs.Columns.{columns_check}
-use Rattle.formats.specs.Coding.{Coding}
-use Rattle.formats.specs.Fixed.{fixed}
-use Rattle.formats.specs.Interchange.{coding}
 use Rattle.alignment.specs.Tile.{Tile, tile_of, extra_check}
 use Rattle.sheets.specs.Making.{planes_check}
 use Rattle.sheets.specs.Packing.{page}
 use Rattle.sheets.specs.Page.{Page}
 use Rattle.units.specs.Multiplier.{takes_every}
 use Rattle.planes.specs.Columns.{takes_odd}
-use Rattle.layers.specs.Odd.{odd_of}
+use Rattle.layers.specs.Halving.{odd_of}
 use Rattle.runs.specs.Checks.{Setting}
-use Rattle.jobs.specs.declared.codes.FormatCode.{FormatCode}
-use Rattle.jobs.specs.declared.codes.FormatCode.TheVariants.{Binary16, Bfloat16, Binary32, Fixed8}
 use Rattle.jobs.specs.declared.codes.UnitCode.{UnitCode}
 use Rattle.jobs.specs.declared.codes.UnitCode.TheVariants.{DrainMultiplier, DrainOddPlane, DrainPlane}
 use Rattle.jobs.specs.declared.plan.Plan.{Plan}
 use Rattle.jobs.specs.Codes.{word_bytes}
 use Rattle.jobs.specs.Plan.{activation_bytes, sheet_bytes, weight_bytes}
+use Rattle.jobs.specs.Survey.{coding_of}
 use Rattle.jobs.specs.Trailer.{trailer_of}
 use Rattle.jobs.specs.Words.{little, words_in}
-
--- what the words of a format mean
-abbrev pub coding_of : FormatCode → Coding ℕ
-coding_of Binary16 = coding 5 10
-coding_of Bfloat16 = coding 8 7
-coding_of Binary32 = coding 8 23
-coding_of Fixed8 = fixed (pos 0)
 
 -- which weights a unit takes: the drain those of the unit below, and the odd layer w where 2w + 1 is taken below
 abbrev pub takes_of : UnitCode → ℤ → Bool

@@ -1,24 +1,22 @@
 -- What is taken from the answers to a job's calls.
-use Rattle.std.specs.Prelude.{ℕ, ◌+◌, List, [], ◌∷◌, Some, None, Option}
+use Rattle.std.specs.Prelude.{ℕ, ◌+◌, List, [], ◌∷◌, Some, None, Ok, Err, Option}
 use Rattle.refusals.specs.declared.Refusal.{Refusal}
 use Rattle.runs.specs.declared.Reading.{Reading}
-use Rattle.calls.specs.declared.Answer.{Answer}
-use Rattle.calls.specs.declared.Answer.TheVariants.{Done, Read, Refused}
+use Rattle.calls.specs.Lists.{Answer}
 use Rattle.listing.specs.declared.Line.{Line}
 
 -- the first refusal among the answers
 abbrev pub first_refusal : List Answer → Option Refusal
 first_refusal [] = None
-first_refusal (Done ∷ answers) = first_refusal answers
-first_refusal (Read reading ∷ answers) = first_refusal answers
-first_refusal (Refused refusal ∷ answers) = Some refusal
+first_refusal (Ok told ∷ answers) = first_refusal answers
+first_refusal (Err refusal ∷ answers) = Some refusal
 
 -- the readings among the answers
 abbrev pub readings : List Answer → List Reading
 readings [] = []
-readings (Done ∷ answers) = readings answers
-readings (Read reading ∷ answers) = reading ∷ readings answers
-readings (Refused refusal ∷ answers) = readings answers
+readings (Ok None ∷ answers) = readings answers
+readings (Ok (Some reading) ∷ answers) = reading ∷ readings answers
+readings (Err refusal ∷ answers) = readings answers
 
 -- the line of a column by its reading
 abbrev pub line_of : ℕ → Reading → Line

@@ -2,6 +2,7 @@
 #![tactic(auto)]
 
 mod asking;
+mod material;
 mod text;
 mod told;
 mod working;

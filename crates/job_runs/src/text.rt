@@ -3,6 +3,7 @@ ghost use Rattle.std.specs.Prelude.{IfOk, string_bytes};
 ghost use Rattle.job_runs.specs.Printed.{Printed};
 
 use crate::working::list_job;
+use jobs::JobError;
 use listing::Refused;
 use std::alloc::{AllocError, Global};
 
@@ -10,8 +11,9 @@ use std::alloc::{AllocError, Global};
 pub fn job_text(heap: Global, file: &[u8]) -> Result<String, AllocError>
     ensures { IfOk result (λ s. Printed file.now (string_bytes s)) }
 {
-    match list_job(heap, file)? {
+    match list_job(heap, file) {
         Ok(listing) => listing.to_string(heap),
-        Err(refusal) => Refused(refusal).to_string(heap),
+        Err(JobError::Refused(refusal)) => Refused(refusal).to_string(heap),
+        Err(JobError::Memory(error)) => Err(error),
     }
 }

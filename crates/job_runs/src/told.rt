@@ -1,30 +1,25 @@
 // What the answers to a job's calls tell.
 ghost use Rattle.std.specs.Prelude.{◌≡◌, ◌≤◌, length, IfOk};
-ghost use Rattle.refusals.specs.Refusing.{Made};
+ghost use Rattle.jobs.specs.Error.{MadeInMemory};
 ghost use Rattle.job_runs.specs.Readings.{first_refusal, line_of, lines_from, readings};
 
 use calls::Answer;
+use jobs::JobError;
 use listing::Line;
-use refusals::Refusal;
 use runs::Reading;
 use std::alloc::{AllocError, Global};
 
 // The readings among the answers, or else the first refusal.
-pub(crate) fn readings_of(
-    heap: Global,
-    answers: &[Answer],
-) -> Result<Result<Vec<Reading>, Refusal>, AllocError>
-    ensures { IfOk result (Made (first_refusal answers.now) (λ v. v.items ≡ readings answers.now)) }
+pub(crate) fn readings_of(heap: Global, answers: &[Answer]) -> Result<Vec<Reading>, JobError>
+    ensures { MadeInMemory (first_refusal answers.now) (λ v. v.items ≡ readings answers.now) result }
 {
     let mut all = Vec::new(heap);
     for answer in answers {
-        match *answer {
-            Answer::Done => {}
-            Answer::Read(reading) => all.push(reading)?,
-            Answer::Refused(refusal) => return Ok(Err(refusal)),
+        if let Some(reading) = (*answer)? {
+            all.push(reading)?;
         }
     }
-    Ok(Ok(all))
+    Ok(all)
 }
 
 // The line of a column.
@@ -45,8 +40,8 @@ pub(crate) fn lines_of(heap: Global, readings: &[Reading]) -> Result<Vec<Line>, 
     ensures { IfOk result (λ v. v.items ≡ lines_from 0 readings.now) }
 {
     let mut lines = Vec::new(heap);
-    for (column, reading) in readings.iter().enumerate() {
-        lines.push(line(column as u8, *reading))?;
+    for (column, reading) in (0u8..).zip(readings) {
+        lines.push(line(column, *reading))?;
     }
     Ok(lines)
 }

@@ -9,9 +9,6 @@ use Rattle.calls.specs.Work.{event_of}
 use Rattle.job_runs.specs.Events.{events_of, reads}
 use Rattle.job_runs.proofs.asking.ask_reads.Goals as goal
 
-pub loop-column-init : goal.loop-column-init
-loop-column-init g c = λ f. sym (append-nil _)
-
 pub loop-column-preserved : goal.loop-column-preserved
 loop-column-preserved g c =
     let old = c.loop-column.calls in

@@ -1,16 +1,20 @@
-use Rattle.job_runs.proofs.Answering.{made_as}
+use Rattle.std.proofs.lemmas.Result.{err_from_is_err_and}
 use Rattle.job_runs.proofs.Planned.{is_fair, read_listed, no_job, sections_long}
 use Rattle.job_runs.proofs.working.list_job.Goals as goal
 
-pub list_read-requires : goal.list_read-requires
-list_read-requires c =
-    let file = c.args.file.now in
-    let job = c.in-Ok.job in
-    let read = c.in-Ok.ensures in
-    record { fair = is_fair file job read; words = (sections_long file job read).0; sheets = (sections_long file job read).1 }
+pub returns-in_err-job : goal.returns-in_err-job
+returns-in_err-job c =
+    let p = err_from_is_err_and c.from_residual.result c.from_residual.ensures.1 in
+    rw (p.1, p.2) (no_job c.args.file.now _ c.in_err-job.ensures)
 
-pub returns-in-Ok : goal.returns-in-Ok
-returns-in-Ok c = made_as c.list_read.result _ _ (read_listed c.args.file.now c.in-Ok.job c.in-Ok.ensures) c.list_read.ensures
+pub list_read-requires-clause-fair : goal.list_read-requires-clause-fair
+list_read-requires-clause-fair c = is_fair c.args.file.now c.in_ok-job.job c.in_ok-job.ensures
 
-pub returns-in-Err : goal.returns-in-Err
-returns-in-Err c = no_job c.args.file.now c.in-Err.refusal c.in-Err.ensures
+pub list_read-requires-clause-words : goal.list_read-requires-clause-words
+list_read-requires-clause-words c = (sections_long c.args.file.now c.in_ok-job.job c.in_ok-job.ensures).0
+
+pub list_read-requires-clause-sheets : goal.list_read-requires-clause-sheets
+list_read-requires-clause-sheets c = (sections_long c.args.file.now c.in_ok-job.job c.in_ok-job.ensures).1
+
+pub returns : goal.returns
+returns c = read_listed c.args.file.now c.in_ok-job.job c.in_ok-job.ensures c.list_read.result c.list_read.ensures

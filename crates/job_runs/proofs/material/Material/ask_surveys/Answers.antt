@@ -8,17 +8,7 @@ use Rattle.calls.specs.declared.Call.TheVariants as call
 use Rattle.calls.specs.Work.{event_of}
 use Rattle.job_runs.specs.Events.{events_of, surveys}
 use Rattle.job_runs.proofs.Left.{surveys_on, none_asked}
-use Rattle.job_runs.proofs.asking.ask_surveys.Goals as goal
-
-pub loop-tile-init : goal.loop-tile-init
-loop-tile-init g c =
-    let all = ap chunks_rest c.into_iter-tile-iterator.ensures.into_iter_gives ∙ c.chunks-tile-items.ensures.rest in
-    let size = ap chunks_size c.into_iter-tile-iterator.ensures.into_iter_gives ∙ c.chunks-tile-items.ensures.size in (
-      omega (arith, size),
-      tt,
-      size,
-      λ f. ap (λ cs. events_of f cs ++ surveys (tile_of f (chunks_rest c.into_iter-tile-iterator.result))) c.new-calls.ensures.items ∙ ap (λ ws. surveys (tile_of f ws)) all,
-    )
+use Rattle.job_runs.proofs.material.Material.ask_surveys.Goals as goal
 
 pub loop-tile-preserved : goal.loop-tile-preserved
 loop-tile-preserved g c =

@@ -5,7 +5,7 @@ use Rattle.alignment.specs.Tile.{tile_of}
 use Rattle.jobs.specs.Plan.{weight_bytes}
 use Rattle.job_runs.specs.Events.{events_of, feeds}
 use Rattle.job_runs.proofs.Left.{sized}
-use Rattle.job_runs.proofs.asking.ask_feeds.Given as goal
+use Rattle.job_runs.proofs.material.Material.ask_feeds.Given as goal
 
 -- the calls so far, and the feeds of the words and sheets that are left
 abbrev pub invariant-loop-tile : goal.invariant-loop-tile
@@ -13,7 +13,7 @@ invariant-loop-tile g l =
     let left = chunks_rest l.tile-iterator in
     (goal.iterator-loop-tile g).can_next l.tile-iterator × (goal.iterator-loop-tile g).is_finite l.tile-iterator
     × (chunks_size l.tile-iterator ≡ 128)
-    × (length l.rest ≡ weight_bytes (sized l.plan (length left)))
+    × (length l.rest ≡ weight_bytes (sized l.self.plan (length left)))
     × ((f : Coding g.row.W.Denot) →
-    events_of f (vec_items l.calls) ++ feeds (sized l.plan (length left)) (tile_of f left) l.rest
-    ≡ events_of f (vec_items l.initial.calls) ++ feeds l.plan (tile_of f l.words) l.weights)
+    events_of f (vec_items l.calls) ++ feeds (sized l.self.plan (length left)) (tile_of f left) l.rest
+    ≡ events_of f (vec_items l.initial.calls) ++ feeds l.self.plan (tile_of f l.self.words.now) l.self.weights.now)
