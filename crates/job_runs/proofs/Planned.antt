@@ -1,30 +1,29 @@
 -- A job that was read: its plan is fair, and its words are one for each row.
-use Rattle.std.proofs.Common.{◌≡◌, ℕ, zero, suc, ◌*◌, ◌/◌, ◌≤◌, Bool, true, false, cond, not, ◌||◌, eqb, ltb, List, [], ◌∷◌, length, drop, is_some, Some, None, Ok, Err, Option, Result, sym, refl, ap, ◌∙◌, subst, arith}
+use Rattle.std.proofs.Common.{◌≡◌, ℕ, zero, suc, ◌≤◌, Bool, true, false, cond, not, ◌||◌, eqb, ltb, List, [], ◌∷◌, length, drop, is_some, Some, None, Ok, Err, Option, Result, sym, refl, ap, ◌∙◌, subst, arith}
 use Rattle.std.specs.List.{AllByRecursion}
 use Rattle.std.proofs.lemmas.List.{length-map}
 use Rattle.std.proofs.lemmas.Bool.{ltb-false}
+use Rattle.std.proofs.lemmas.Bool.Decides.{nat_tests}
 use Rattle.refusals.specs.declared.Refusal.{Refusal}
 use Rattle.refusals.specs.declared.Refusal.TheVariants.{UnknownCode}
 use Rattle.columns.specs.Columns.{columns_check}
 use Rattle.refusals.specs.Refusing.{first, Made}
-use Rattle.refusals.proofs.Refusing.{passed, both_passed, first_refuses, first_passes, was_made, was_refused, made, unmade}
+use Rattle.refusals.proofs.Refusing.{passed, both_passed, first_refuses, first_passes, was_made, was_refused, unmade}
 use Rattle.alignment.specs.Tile.{Tile, tile_of, extra_check}
 use Rattle.sheets.specs.Code.{coded, sheet_codes, sheet_number}
 use Rattle.sheets.specs.Making.{planes_check}
 use Rattle.listing.specs.declared.Listing.{Listing}
-use Rattle.jobs.specs.declared.activations.Activations.{Activations}
 use Rattle.jobs.specs.declared.codes.FormatCode.{FormatCode}
-use Rattle.jobs.specs.declared.codes.FormatCode.TheVariants.{Binary16, Bfloat16, Binary32, Fixed8}
 use Rattle.jobs.specs.declared.job.Job.{Job}
 use Rattle.jobs.specs.declared.plan.Plan.{Plan}
 use Rattle.jobs.specs.declared.trailer.Trailer.{Trailer}
-use Rattle.jobs.specs.Activations.{format_of, held_words, section_words}
+use Rattle.jobs.specs.Activations.{section_words}
 use Rattle.jobs.specs.Codes.{format_codes, format_number, unit_codes, unit_number, word_bytes}
 use Rattle.jobs.specs.declared.error.JobError.{JobError}
 use Rattle.jobs.specs.declared.error.JobError.TheVariants.{Refused, Memory}
 use Rattle.jobs.specs.Error.{MadeInMemory}
 use Rattle.jobs.specs.Job.{job_check, JobOf, trailer_check}
-use Rattle.jobs.specs.Plan.{with_some, plan_of, plan_check, unknown, activation_bytes, weight_bytes}
+use Rattle.jobs.specs.Plan.{with_some, plan_of, plan_check, unknown, activation_bytes}
 use Rattle.jobs.specs.Survey.{coding_of}
 use Rattle.jobs.specs.Trailer.{trailer_of}
 use Rattle.jobs.specs.Words.{little, words_in}
@@ -99,10 +98,7 @@ few_rows : (t : Trailer) → unknown t ≡ false → t.rows ≤ 4096
 few_rows t e = ltb-false 4096 t.rows (last (not (eqb t.mark 0x54)) (not (is_some (plan_of t))) (ltb 4096 t.rows) e)
   where
     last : (a b c : Bool) → (a || b || c) ≡ false → c ≡ false
-    last a b false e = refl
-    last true b true e = e
-    last false true true e = e
-    last false false true e = e
+    last a b c e = grind (arith, nat_tests)
 
 -- what was made, within memory, has what follows from its own
 made_as : {X : Type 0} (o : Option Refusal) (P Q : X → Type 0) → ((x : X) → P x → Q x) → (r : Result X JobError) → MadeInMemory o P r → MadeInMemory o Q r
@@ -117,7 +113,7 @@ module _ (file : List ℕ) (job : Job) (read : Made (job_check file) (JobOf file
   accepted : job_check file ≡ None
   accepted = (was_made (job_check file) (JobOf file) job read).0
 
-  holds : JobOf file job
+  pub holds : JobOf file job
   holds = (was_made (job_check file) (JobOf file) job read).1
 
   trailer_accepted : plan_check (trailer_of file) ≡ None
@@ -133,9 +129,6 @@ module _ (file : List ℕ) (job : Job) (read : Made (job_check file) (JobOf file
   is_fair =
       let ranges = both_passed (columns_check (trailer_of file).columns) (extra_check (trailer_of file).extra) known.1 in
       record { columns = ap columns_check parts.columns ∙ ranges.0; planes = parts.planes; extra = ap extra_check parts.extra ∙ ranges.1 }
-
-  pub sections_long : (length job.activations.bytes.now ≡ activation_bytes job.plan) × (length job.weights.bytes.now ≡ weight_bytes job.plan)
-  sections_long = (holds.activations.long, holds.weights.long)
 
   rows_few : job.plan.rows ≤ 4096
   rows_few = omega (arith, parts.rows, few_rows (trailer_of file) known.0)

@@ -1,16 +1,14 @@
 -- A job that was worked, and its listing.
-use Rattle.std.proofs.Common.{◌≡◌, ℕ, ◌≤◌, true, false, List, length, ℤ, Some, None, Ok, Err, vec_items, Result, Vec, sym, refl, ap, ◌∙◌, subst, arith}
+use Rattle.std.proofs.Common.{◌≡◌, ℕ, ◌≤◌, true, false, List, length, ℤ, None, Ok, Err, vec_items, Result, Vec, sym, refl, ap, ◌∙◌, subst, arith}
 use Rattle.std.proofs.lemmas.List.FromFn.{length-map-range_with_len}
 use Rattle.std.proofs.lemmas.Bool.Decides.{nat_tests}
 use Rattle.std.specs.List.{AllByRecursion}
 use Rattle.std.specs.declared.alloc.Global.{Global}
-use Rattle.refusals.specs.declared.Refusal.{Refusal}
 use Rattle.columns.specs.Columns.{columns_check}
 use Rattle.refusals.specs.Refusing.{Made}
-use Rattle.refusals.proofs.Refusing.{made, unmade}
+use Rattle.refusals.proofs.Refusing.{made}
 use Rattle.formats.specs.Coding.{Coding}
 use Rattle.alignment.specs.Tile.{Tile, tile_of}
-
 use Rattle.sheets.specs.Meanings.{AnySheet, any_meaning}
 use Rattle.units.specs.Meaning.{Meaning}
 use Rattle.runs.specs.declared.Reading.{Reading}

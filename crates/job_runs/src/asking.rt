@@ -52,6 +52,17 @@ impl<'a, W: Copy> Material<'a, W> {
         Ok(calls)
     }
 
+    // Every column is read.
+    fn ask_reads(&self, mut calls: Calls<'a, W>) -> Result<Calls<'a, W>, AllocError>
+        ensures { IfOk result (λ v. (f : Coding W) → events_of f v.items ≡ events_of f calls.entry.items ++ reads self.now.plan.columns) }
+    {
+        // A loop, since the borrow checker does not cover `map(Call::Read)`: a call names a lifetime, and a number none.
+        for column in 0..usize::from(self.plan.columns) {
+            calls.push(Call::Read(column))?;
+        }
+        Ok(calls)
+    }
+
     // All calls of a job.
     pub(crate) fn calls(&self, heap: Global) -> Result<Calls<'a, W>, AllocError>
         ensures { IfOk result (λ v. (f : Coding W) → events_of f v.items ≡ job_events self.now.plan (tile_of f self.now.words.now) self.now.weights.now) }
@@ -59,20 +70,6 @@ impl<'a, W: Copy> Material<'a, W> {
         let mut calls = self.ask_surveys(heap)?;
         calls.push(Call::Fix)?;
         let calls = self.ask_feeds(calls)?;
-        ask_reads(calls, usize::from(self.plan.columns))
+        self.ask_reads(calls)
     }
-}
-
-// Every column is read.
-fn ask_reads<'a, W: Copy>(
-    mut calls: Calls<'a, W>,
-    columns: usize,
-) -> Result<Calls<'a, W>, AllocError>
-    ensures { IfOk result (λ v. (f : Coding W) → events_of f v.items ≡ events_of f calls.entry.items ++ reads columns) }
-{
-    // A loop, since the borrow checker does not cover `map(Call::Read)`, whose result names a lifetime that no number has.
-    for column in 0..columns {
-        calls.push(Call::Read(column))?;
-    }
-    Ok(calls)
 }

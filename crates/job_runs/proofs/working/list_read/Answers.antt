@@ -1,4 +1,4 @@
-use Rattle.std.proofs.Common.{◌≡◌, sym, ap, ◌∙◌}
+use Rattle.std.proofs.Common.{sym, ap, ◌∙◌}
 use Rattle.jobs.specs.declared.codes.FormatCode.TheVariants.{Binary16, Bfloat16, Binary32}
 use Rattle.jobs.specs.Activations.{format_of, held_words}
 use Rattle.job_runs.proofs.Planned.{as_many, same_listed}

@@ -2,11 +2,10 @@ use Rattle.std.proofs.Common.{[], ◌∷◌, ◌++◌, vec_items, sym, refl, ap,
 use Rattle.std.specs.Slice.Iter.{chunks_rest, chunks_size}
 use Rattle.std.proofs.lemmas.List.{append-nil, map_push}
 use Rattle.std.proofs.lemmas.Slice.{pushed}
-use Rattle.alignment.specs.Tile.{tile_of}
 use Rattle.sheets.specs.Meanings.{any_meaning}
 use Rattle.calls.specs.declared.Call.TheVariants as call
 use Rattle.calls.specs.Work.{event_of}
-use Rattle.job_runs.specs.Events.{events_of, surveys}
+use Rattle.job_runs.specs.Events.{events_of}
 use Rattle.job_runs.proofs.Left.{surveys_on, none_asked}
 use Rattle.job_runs.proofs.material.Material.ask_surveys.Goals as goal
 

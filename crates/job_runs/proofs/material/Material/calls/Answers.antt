@@ -1,4 +1,4 @@
-use Rattle.std.proofs.Common.{[], ◌∷◌, ◌++◌, vec_items, refl, ap, ◌∙◌}
+use Rattle.std.proofs.Common.{[], ◌∷◌, vec_items, refl, ap, ◌∙◌}
 use Rattle.std.proofs.lemmas.List.{map_push}
 use Rattle.std.proofs.lemmas.Result.{IfOk-weaker}
 use Rattle.std.proofs.lemmas.Slice.{pushed}
@@ -19,7 +19,7 @@ returns g c =
     IfOk-weaker c.ask_reads.result _ _ (λ v read f.
     in_order (events_of f (vec_items v)) (events_of f (vec_items fed)) (events_of f (vec_items c.push.new.self)) (events_of f (vec_items old))
     (surveys (tile_of f c.args.self.now.words.now)) (feeds p (tile_of f c.args.self.now.words.now) c.args.self.now.weights.now) (reads p.columns)
-    (read f ∙ ap (λ n. events_of f (vec_items fed) ++ reads n) c.from.ensures)
+    (read f)
     (c.in_ok-calls-2.ensures f)
     (ap (events_of f) items ∙ map_push (event_of f any_meaning) (vec_items old) call.Fix)
     (c.in_ok-calls.ensures f)) c.ask_reads.ensures

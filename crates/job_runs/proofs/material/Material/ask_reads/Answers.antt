@@ -1,13 +1,13 @@
 use Rattle.std.proofs.Common.{◌≡◌, [], ◌∷◌, ◌++◌, vec_items, sym, refl, ap, ◌∙◌, arith}
 use Rattle.std.proofs.lemmas.List.FromFn.{map-range_with_len_more}
-use Rattle.std.proofs.lemmas.List.{append-nil, append_assoc, map_push}
+use Rattle.std.proofs.lemmas.List.{append_assoc, map_push}
 use Rattle.std.proofs.lemmas.Slice.{pushed}
 use Rattle.sheets.specs.Meanings.{any_meaning}
 use Rattle.runs.specs.Log.{read}
 use Rattle.calls.specs.declared.Call.TheVariants as call
 use Rattle.calls.specs.Work.{event_of}
 use Rattle.job_runs.specs.Events.{events_of, reads}
-use Rattle.job_runs.proofs.asking.ask_reads.Goals as goal
+use Rattle.job_runs.proofs.material.Material.ask_reads.Goals as goal
 
 pub loop-column-preserved : goal.loop-column-preserved
 loop-column-preserved g c =
@@ -22,5 +22,5 @@ loop-column-preserved g c =
 
 pub returns : goal.returns
 returns g c =
-    let all : c.loop-column.column ≡ c.args.columns = omega arith in λ f.
+    let all : c.loop-column.column ≡ c.args.self.now.plan.columns = omega (arith, c.from-column-end.ensures) in λ f.
     c.loop-column.invariant f ∙ ap (λ n. events_of f (vec_items c.args.calls) ++ reads n) all
