@@ -22,11 +22,11 @@ use Rattle.runs.specs.Log.{Log, Event, survey, fix, feed, read, clear, after, em
 use Rattle.runs.proofs.Tiles.{feed_in_rows}
 use Rattle.calls.specs.Lists.{answers_to, log_after}
 use Rattle.jobs.specs.declared.plan.Plan.{Plan}
-use Rattle.jobs.specs.Survey.{coding_of}
+use Rattle.jobs.specs.Survey.{coding_of, tiles_check}
 use Rattle.job_runs.specs.Parts.{job_setting, takes_of, tile_count, tile_at, tile_rows, page_at}
 use Rattle.job_runs.specs.Events.{survey_of, feed_of, surveys, feeds, job_answers}
 use Rattle.job_runs.specs.Readings.{first_refusal}
-use Rattle.job_runs.specs.Refused.{words_check, weights_of, weights_check, run_check}
+use Rattle.job_runs.specs.Refused.{weights_of, weights_check, run_check}
 use Rattle.job_runs.proofs.Answering.{first_append, first_cons}
 use Rattle.job_runs.proofs.Surveying.{words_left, full_or_last, seam, all_surveyed}
 use Rattle.job_runs.proofs.Columns.{surveyed_log, fed_log, surveys_given, feeds_given, reads_given, in_turn}
@@ -48,38 +48,38 @@ module _ (check : ℕ → Tile → Option Refusal) (nil : (a b : ℕ) → check 
       ∙ ap (first (check (tile * 128) here)) (seam check nil (tile * 128) here more (full_or_last words tile) ∙ ap (λ r. check r more) next)
 
 -- ---- surveys
-words_append : (row : ℕ) (tile more : Tile) → words_check row (tile ++ more) ≡ first (words_check row tile) (words_check (row + length tile) more)
-words_append row [] more = ap (λ r. words_check r more) (sym (add-zero row))
+words_append : (row : ℕ) (tile more : Tile) → tiles_check row (tile ++ more) ≡ first (tiles_check row tile) (tiles_check (row + length tile) more)
+words_append row [] more = ap (λ r. tiles_check r more) (sym (add-zero row))
 words_append row (None ∷ tile) more = refl
 words_append row (Some d ∷ tile) more =
     let same : row + 1 + length tile ≡ row + suc (length tile) = omega arith in
-    words_append (row + 1) tile more ∙ ap (λ r. first (words_check (row + 1) tile) (words_check r more)) same
+    words_append (row + 1) tile more ∙ ap (λ r. first (tiles_check (row + 1) tile) (tiles_check r more)) same
 
 -- the rows of a tile are counted from 0
-in_tile : (tile row : ℕ) (words : Tile) → row + length words ≤ 128 → not_finite row words ≡ words_check (tile * 128 + row) words
+in_tile : (tile row : ℕ) (words : Tile) → row + length words ≤ 128 → not_finite row words ≡ tiles_check (tile * 128 + row) words
 in_tile tile row [] h = refl
 in_tile tile row (None ∷ words) h = let same : row ≡ (tile * 128 + row) % 128 = omega arith in ap (λ r. Some (NotFinite r)) same
 in_tile tile row (Some d ∷ words) h =
     let same : tile * 128 + (row + 1) ≡ tile * 128 + row + 1 = omega arith in
-    in_tile tile (row + 1) words (omega arith) ∙ ap (λ r. words_check r words) same
+    in_tile tile (row + 1) words (omega arith) ∙ ap (λ r. tiles_check r words) same
 
 -- a survey is refused for the first word of its tile that is not finite
-survey_as : (words : Tile) (tile : ℕ) → survey_check (tile_at words tile) ≡ words_check (tile * 128) (tile_at words tile)
+survey_as : (words : Tile) (tile : ℕ) → survey_check (tile_at words tile) ≡ tiles_check (tile * 128) (tile_at words tile)
 survey_as words tile =
     let here = tile_at words tile in
     let start : tile * 128 + 0 ≡ tile * 128 = omega arith in
     ap (λ b. first (refuse b TooManyWords) (not_finite 0 here)) (le-ltb 128 (length here) (tile_few words tile))
-    ∙ in_tile tile 0 here (omega (arith, tile_few words tile)) ∙ ap (λ r. words_check r here) start
+    ∙ in_tile tile 0 here (omega (arith, tile_few words tile)) ∙ ap (λ r. tiles_check r here) start
 
 -- surveys of the tiles that are left are refused for the first word that is left and not finite
 surveys_refused : (l : Log) (words : Tile) (tile count : ℕ) → length words ≤ (tile + count) * 128
-    → first_refusal (answers_to l (map (survey_of words) (range_with_len tile count))) ≡ words_check (tile * 128) (drop (tile * 128) words)
-surveys_refused l words tile zero h = sym (ap (words_check (tile * 128)) (drop_all (tile * 128) words (omega arith)))
+    → first_refusal (answers_to l (map (survey_of words) (range_with_len tile count))) ≡ tiles_check (tile * 128) (drop (tile * 128) words)
+surveys_refused l words tile zero h = sym (ap (tiles_check (tile * 128)) (drop_all (tile * 128) words (omega arith)))
 surveys_refused l words tile (suc count) h =
     first_cons (survey_check (tile_at words tile)) None _
     ∙ ap (λ o. first o (first_refusal (answers_to (after l (survey_of words tile)) (map (survey_of words) (range_with_len (tile + 1) count))))) (survey_as words tile)
-    ∙ ap (first (words_check (tile * 128) (tile_at words tile))) (surveys_refused (after l (survey_of words tile)) words (tile + 1) count (omega arith))
-    ∙ sym (in_tiles words_check (λ a b. refl) words_append words tile)
+    ∙ ap (first (tiles_check (tile * 128) (tile_at words tile))) (surveys_refused (after l (survey_of words tile)) words (tile + 1) count (omega arith))
+    ∙ sym (in_tiles tiles_check (λ a b. refl) words_append words tile)
 
 -- ---- words that the surveys found finite
 -- every word is finite, and its exponent is not above the shared one
@@ -90,7 +90,7 @@ le_int_lt : (a b : ℤ) → b ≤ℤ a → lt_z a b ≡ false
 le_int_lt a b h = grind (arith, ints)
 
 -- words that are finite are lined up by their largest exponent
-lined : (shared : ℤ) (row : ℕ) (words : Tile) → words_check row words ≡ None → AllByRecursion (λ word. IfSome word (λ d. d.2 ≤ℤ shared)) words → Lined shared words
+lined : (shared : ℤ) (row : ℕ) (words : Tile) → tiles_check row words ≡ None → AllByRecursion (λ word. IfSome word (λ d. d.2 ≤ℤ shared)) words → Lined shared words
 lined shared row [] e above = tt
 lined shared row (None ∷ words) e above = absurd (none_some e refl)
 lined shared row (Some d ∷ words) e above = (λ r. ap (λ b. refuse b (AboveShared r)) (le_int_lt shared d.2 above.0), lined shared (row + 1) words e above.1)
@@ -188,11 +188,11 @@ calls_keep l (e ∷ es) = calls_keep (after l e) es ∙ call_keeps l e
 -- ---- all calls of a job
 module _ (p : Plan) (words : Tile) (sheets : List ℕ) (sized : length words ≡ p.rows) (few : p.rows ≤ 4096) where
   -- the surveys are refused for the first word that is not finite
-  surveys_as : first_refusal (surveys_given p words sheets) ≡ words_check 0 words
+  surveys_as : first_refusal (surveys_given p words sheets) ≡ tiles_check 0 words
   surveys_as = surveys_refused (empty (job_setting p)) words 0 (tile_count (length words)) (omega arith)
 
   -- where none is, the feeds are refused for the first weight that is not taken
-  feeds_as : words_check 0 words ≡ None → first_refusal (feeds_given p words sheets) ≡ weights_check p sheets 0 words
+  feeds_as : tiles_check 0 words ≡ None → first_refusal (feeds_given p words sheets) ≡ weights_check p sheets 0 words
   feeds_as finite =
       let least = (coding_of p.format).least in
       ap (λ l. first_refusal (answers_to (settled l) (feeds p words sheets))) (all_surveyed (empty (job_setting p)) words 0 (tile_count (length words)) (omega arith) (surveys_as ∙ finite))
@@ -214,4 +214,4 @@ module _ (p : Plan) (words : Tile) (sheets : List ℕ) (sized : length words ≡
       ap first_refusal (in_turn p words sheets)
       ∙ first_append (surveys_given p words sheets) (Ok None ∷ (given ++ last))
       ∙ ap (λ o. first o (first_refusal (given ++ last))) surveys_as
-      ∙ same_behind (words_check 0 words) _ _ (λ finite. first_append given last ∙ ap (first (first_refusal given)) reads_as ∙ first_none (first_refusal given) ∙ feeds_as finite)
+      ∙ same_behind (tiles_check 0 words) _ _ (λ finite. first_append given last ∙ ap (first (first_refusal given)) reads_as ∙ first_none (first_refusal given) ∙ feeds_as finite)

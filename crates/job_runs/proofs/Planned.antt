@@ -24,12 +24,12 @@ use Rattle.jobs.specs.declared.error.JobError.TheVariants.{Refused, Memory}
 use Rattle.jobs.specs.Error.{MadeInMemory}
 use Rattle.jobs.specs.Job.{job_check, JobOf, trailer_check}
 use Rattle.jobs.specs.Plan.{with_some, plan_of, plan_check, unknown, activation_bytes}
-use Rattle.jobs.specs.Survey.{coding_of}
+use Rattle.jobs.specs.Survey.{coding_of, activations_tile, file_tile}
 use Rattle.jobs.specs.Trailer.{trailer_of}
 use Rattle.jobs.specs.Words.{little, words_in}
 use Rattle.jobs.proofs.Heading.{one_each}
 use Rattle.job_runs.specs.declared.material.Material.{Material}
-use Rattle.job_runs.specs.Parts.{Fair, words_of, file_words, file_sheets}
+use Rattle.job_runs.specs.Parts.{Fair, file_sheets}
 use Rattle.job_runs.specs.Events.{job_answers}
 use Rattle.job_runs.specs.Readings.{first_refusal}
 use Rattle.job_runs.specs.Listing.{Lists, ListedAs, ListingOf, listing_check}
@@ -48,12 +48,12 @@ as_many p bytes long ws words = ap length (words ∙ one_each p bytes long) ∙ 
 -- the listing of such words, by their code, is that of the section
 pub same_listed : (job : Job) (code : FormatCode) (m : Material ℕ) (r : Result Listing JobError) → length job.activations.bytes.now ≡ activation_bytes job.plan
     → code ≡ job.plan.format → m.plan ≡ job.plan → m.words.now ≡ section_words job.plan.format job.activations.bytes.now → m.weights.now ≡ job.weights.bytes.now
-    → ListedAs m.plan (tile_of (coding_of code) m.words.now) m.weights.now r → ListedAs job.plan (words_of job.plan job.activations.bytes.now) job.weights.bytes.now r
+    → ListedAs m.plan (tile_of (coding_of code) m.words.now) m.weights.now r → ListedAs job.plan (activations_tile job.plan job.activations.bytes.now) job.weights.bytes.now r
 same_listed job code m r long format plan words weights listed =
     let p = job.plan in
-    let decoded : tile_of (coding_of code) m.words.now ≡ words_of p job.activations.bytes.now =
+    let decoded : tile_of (coding_of code) m.words.now ≡ activations_tile p job.activations.bytes.now =
     ap (λ f. tile_of (coding_of f) m.words.now) format ∙ ap (tile_of (coding_of p.format)) (words ∙ one_each p job.activations.bytes.now long) in
-    subst (λ (sheets : List ℕ). ListedAs p (words_of p job.activations.bytes.now) sheets r) weights
+    subst (λ (sheets : List ℕ). ListedAs p (activations_tile p job.activations.bytes.now) sheets r) weights
     (subst (λ (ws : Tile). ListedAs p ws m.weights.now r) decoded
     (subst (λ (q : Plan). ListedAs q (tile_of (coding_of code) m.words.now) m.weights.now r) plan listed))
 
@@ -134,24 +134,24 @@ module _ (file : List ℕ) (job : Job) (read : Made (job_check file) (JobOf file
   rows_few = omega (arith, parts.rows, few_rows (trailer_of file) known.0)
 
   -- the sections hold what the file does
-  pub read_listed : (r : Result Listing JobError) → ListedAs job.plan (words_of job.plan job.activations.bytes.now) job.weights.bytes.now r → MadeInMemory (listing_check file) (ListingOf file) r
+  pub read_listed : (r : Result Listing JobError) → ListedAs job.plan (activations_tile job.plan job.activations.bytes.now) job.weights.bytes.now r → MadeInMemory (listing_check file) (ListingOf file) r
   read_listed r m =
-      made_as (listing_check file) (Lists job.plan (file_words file job.plan) (file_sheets file job.plan)) (ListingOf file)
-      (λ listing lists q is. subst (λ (x : Plan). Lists x (file_words file x) (file_sheets file x) listing) (one_plan q is) lists)
-      r (subst (λ o. MadeInMemory o (Lists job.plan (file_words file job.plan) (file_sheets file job.plan)) r) (sym checked) in_file)
+      made_as (listing_check file) (Lists job.plan (file_tile file job.plan) (file_sheets file job.plan)) (ListingOf file)
+      (λ listing lists q is. subst (λ (x : Plan). Lists x (file_tile file x) (file_sheets file x) listing) (one_plan q is) lists)
+      r (subst (λ o. MadeInMemory o (Lists job.plan (file_tile file job.plan) (file_sheets file job.plan)) r) (sym checked) in_file)
     where
-      long : length (file_words file job.plan) ≡ job.plan.rows
+      long : length (file_tile file job.plan) ≡ job.plan.rows
       long = length-map _ (coding_of job.plan.format).decode ∙ words_long (word_bytes job.plan.format) little job.plan.rows _
 
-      checked : listing_check file ≡ first_refusal (job_answers job.plan (file_words file job.plan) (file_sheets file job.plan))
+      checked : listing_check file ≡ first_refusal (job_answers job.plan (file_tile file job.plan) (file_sheets file job.plan))
       checked =
-          first_passes _ accepted ∙ ap (λ o. with_some o (λ q. run_check q (file_words file q) (file_sheets file q))) holds.plan
-          ∙ sym (refused_as job.plan (file_words file job.plan) (file_sheets file job.plan) long rows_few)
+          first_passes _ accepted ∙ ap (λ o. with_some o (λ q. run_check q (file_tile file q) (file_sheets file q))) holds.plan
+          ∙ sym (refused_as job.plan (file_tile file job.plan) (file_sheets file job.plan) long rows_few)
 
-      in_file : ListedAs job.plan (file_words file job.plan) (file_sheets file job.plan) r
+      in_file : ListedAs job.plan (file_tile file job.plan) (file_sheets file job.plan) r
       in_file =
-          subst (λ (sheets : List ℕ). ListedAs job.plan (file_words file job.plan) sheets r) holds.weights.holds
-          (subst (λ (bytes : List ℕ). ListedAs job.plan (words_of job.plan bytes) job.weights.bytes.now r) holds.activations.holds m)
+          subst (λ (sheets : List ℕ). ListedAs job.plan (file_tile file job.plan) sheets r) holds.weights.holds
+          (subst (λ (bytes : List ℕ). ListedAs job.plan (activations_tile job.plan bytes) job.weights.bytes.now r) holds.activations.holds m)
 
       one_plan : (q : Plan) → plan_of (trailer_of file) ≡ Some q → job.plan ≡ q
       one_plan q is = let same : Some job.plan ≡ Some q = sym holds.plan ∙ is in cc

@@ -1,22 +1,16 @@
 -- After the surveys of all tiles, the shared exponent is the largest of all words.
-use Rattle.std.proofs.Common.{◌≡◌, ℕ, zero, suc, ◌+◌, ◌*◌, ◌≤◌, min, List, [], ◌∷◌, ◌++◌, map, length, take, drop, ℤ, Some, None, sym, refl, ap, ◌∙◌, arith}
+use Rattle.std.proofs.Common.{◌≡◌, ℕ, zero, suc, ◌+◌, ◌*◌, ◌≤◌, min, List, [], ◌∷◌, ◌++◌, map, length, take, drop, ℤ, None, sym, refl, ap, ◌∙◌, arith}
 use Rattle.std.specs.List.{range_with_len}
-use Rattle.std.specs.Int.{int_max}
 use Rattle.std.proofs.lemmas.List.{take-append-drop, drop-drop, drop_all, length-append, length-take}
 use Rattle.refusals.specs.Refusing.{unless}
 use Rattle.alignment.specs.Tile.{Tile, survey_check, largest}
 use Rattle.runs.specs.Log.{Log, after, raised}
 use Rattle.calls.specs.Lists.{answers_to, log_after}
+use Rattle.jobs.proofs.Tiles.{largest_append}
 use Rattle.job_runs.specs.Parts.{tile_at}
 use Rattle.job_runs.specs.Events.{survey_of}
 use Rattle.job_runs.specs.Readings.{first_refusal}
 use Rattle.job_runs.proofs.Answering.{none_cons}
-
--- the largest exponent of a tile first, and then of the rest
-pub largest_append : (m : ℤ) (tile more : Tile) → largest m (tile ++ more) ≡ largest (largest m tile) more
-largest_append m [] more = refl
-largest_append m (None ∷ tile) more = largest_append m tile more
-largest_append m (Some d ∷ tile) more = largest_append (int_max m d.2) tile more
 
 -- ---- the words from a tile on
 pub words_left : {A : Type 0} (tile : ℕ) (words : List A) → take 128 (drop (tile * 128) words) ++ drop ((tile + 1) * 128) words ≡ drop (tile * 128) words

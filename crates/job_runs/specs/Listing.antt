@@ -13,11 +13,11 @@ use Rattle.jobs.specs.declared.error.JobError.{JobError}
 use Rattle.jobs.specs.Error.{MadeInMemory}
 use Rattle.jobs.specs.Job.{job_check}
 use Rattle.jobs.specs.Plan.{with_some, plan_of}
-use Rattle.jobs.specs.Survey.{coding_of}
+use Rattle.jobs.specs.Survey.{coding_of, file_tile}
 use Rattle.jobs.specs.Trailer.{trailer_of}
 use Rattle.listing.specs.declared.Line.{Line}
 use Rattle.listing.specs.declared.Listing.{Listing}
-use Rattle.job_runs.specs.Parts.{file_words, file_sheets}
+use Rattle.job_runs.specs.Parts.{file_sheets}
 use Rattle.job_runs.specs.Events.{job_answers}
 use Rattle.job_runs.specs.Readings.{first_refusal}
 use Rattle.job_runs.specs.Terms.{job_terms}
@@ -25,7 +25,7 @@ use Rattle.job_runs.specs.Refused.{run_check}
 
 -- the checks of reading the file, and then of its words and weights
 abbrev pub listing_check : List ℕ → Option Refusal
-listing_check file = first (job_check file) (with_some (plan_of (trailer_of file)) (λ p. run_check p (file_words file p) (file_sheets file p)))
+listing_check file = first (job_check file) (with_some (plan_of (trailer_of file)) (λ p. run_check p (file_tile file p) (file_sheets file p)))
 
 -- the exponent that the words share: the larger of the format's least and every word's
 abbrev pub shared_of : Plan → Tile → ℤ
@@ -61,4 +61,4 @@ ListedAs p words sheets = MadeInMemory (first_refusal (job_answers p words sheet
 
 -- the listing of the plan that the file's trailer asks for
 abbrev pub ListingOf : List ℕ → Listing → Type 0
-ListingOf file listing = (p : Plan) → plan_of (trailer_of file) ≡ Some p → Lists p (file_words file p) (file_sheets file p) listing
+ListingOf file listing = (p : Plan) → plan_of (trailer_of file) ≡ Some p → Lists p (file_tile file p) (file_sheets file p) listing

@@ -1,7 +1,7 @@
--- The parts of a job: how its run is opened, its words, and its tiles of 128 rows with their sheets.
+-- The parts of a job: how its run is opened, and its tiles of 128 rows with their sheets.
 use Rattle.std.specs.Prelude.{◌≡◌, ℕ, ◌+◌, ◌-◌, ◌*◌, ◌/◌, min, Bool, List, take, drop, ℤ, None}
 use Rattle.columns.specs.Columns.{columns_check}
-use Rattle.alignment.specs.Tile.{Tile, tile_of, extra_check}
+use Rattle.alignment.specs.Tile.{Tile, extra_check}
 use Rattle.sheets.specs.Making.{planes_check}
 use Rattle.sheets.specs.Packing.{page}
 use Rattle.sheets.specs.Page.{Page}
@@ -12,11 +12,9 @@ use Rattle.runs.specs.Checks.{Setting}
 use Rattle.jobs.specs.declared.codes.UnitCode.{UnitCode}
 use Rattle.jobs.specs.declared.codes.UnitCode.TheVariants.{DrainMultiplier, DrainOddPlane, DrainPlane}
 use Rattle.jobs.specs.declared.plan.Plan.{Plan}
-use Rattle.jobs.specs.Codes.{word_bytes}
-use Rattle.jobs.specs.Plan.{activation_bytes, sheet_bytes, weight_bytes}
+use Rattle.jobs.specs.Plan.{sheet_bytes, weight_bytes}
 use Rattle.jobs.specs.Survey.{coding_of}
 use Rattle.jobs.specs.Trailer.{trailer_of}
-use Rattle.jobs.specs.Words.{little, words_in}
 
 -- which weights a unit takes: the drain those of the unit below, and the odd layer w where 2w + 1 is taken below
 abbrev pub takes_of : UnitCode → ℤ → Bool
@@ -33,14 +31,6 @@ pub record Fair (p : Plan) : Type 0 where
   pub columns : columns_check p.columns ≡ None
   pub planes : planes_check p.sheet ≡ None
   pub extra : extra_check p.extra ≡ None
-
--- the words in the bytes of the activations, decoded, one for each row
-abbrev pub words_of : Plan → List ℕ → Tile
-words_of p bytes = tile_of (coding_of p.format) (words_in (word_bytes p.format) little p.rows bytes)
-
--- those that the file holds
-abbrev pub file_words : List ℕ → Plan → Tile
-file_words file p = words_of p (take (activation_bytes p) (drop (trailer_of file).activations file))
 
 -- the bytes of the sheets that the file holds
 abbrev pub file_sheets : List ℕ → Plan → List ℕ

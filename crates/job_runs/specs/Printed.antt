@@ -5,13 +5,14 @@ use Rattle.refusals.specs.declared.Refusal.{Refusal}
 use Rattle.listing.specs.Lines.{listing_text, refused_text}
 use Rattle.jobs.specs.declared.plan.Plan.{Plan}
 use Rattle.jobs.specs.Plan.{plan_of}
+use Rattle.jobs.specs.Survey.{file_tile}
 use Rattle.jobs.specs.Trailer.{trailer_of}
-use Rattle.job_runs.specs.Parts.{file_words, file_sheets}
+use Rattle.job_runs.specs.Parts.{file_sheets}
 use Rattle.job_runs.specs.Listing.{listing_check, job_header, job_line}
 
 -- the listing of a job: its header, and a line for each column
 abbrev pub job_listing : Plan → List ℕ → List ℕ
-job_listing p file = listing_text (job_header p (file_words file p)) (map (job_line p (file_words file p) (file_sheets file p)) (range_with_len 0 p.columns))
+job_listing p file = listing_text (job_header p (file_tile file p)) (map (job_line p (file_tile file p) (file_sheets file p)) (range_with_len 0 p.columns))
 
 -- by what the checks gave: the listing of the plan that the trailer asks for, or the number of the refusal
 abbrev pub PrintedBy : Option Refusal → List ℕ → List ℕ → Type 0

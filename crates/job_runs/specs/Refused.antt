@@ -1,19 +1,14 @@
 -- Why a job is refused once its file is read.
-use Rattle.std.specs.Prelude.{ℕ, ◌+◌, ◌/◌, ◌%◌, List, [], ◌∷◌, ℤ, Some, None, Option}
+use Rattle.std.specs.Prelude.{ℕ, ◌+◌, ◌/◌, ◌%◌, List, [], ◌∷◌, ℤ, None, Option}
 use Rattle.refusals.specs.declared.Refusal.{Refusal}
-use Rattle.refusals.specs.declared.Refusal.TheVariants.{NotFinite, WeightNotTakenAt}
+use Rattle.refusals.specs.declared.Refusal.TheVariants.{WeightNotTakenAt}
 use Rattle.refusals.specs.Refusing.{first}
 use Rattle.alignment.specs.Tile.{Tile}
 use Rattle.sheets.specs.Page.{line}
 use Rattle.units.specs.Meaning.{untaken}
 use Rattle.jobs.specs.declared.plan.Plan.{Plan}
+use Rattle.jobs.specs.Survey.{tiles_check}
 use Rattle.job_runs.specs.Parts.{takes_of, page_at}
-
--- the first word that is not finite, by its row in its tile of 128; the job's rows are counted on from `row`
-abbrev pub words_check : ℕ → Tile → Option Refusal
-words_check row [] = None
-words_check row (None ∷ words) = Some (NotFinite (row % 128))
-words_check row (Some d ∷ words) = words_check (row + 1) words
 
 -- the weights of a row of the job: they lie in the sheet of the row's tile
 abbrev pub weights_of : Plan → List ℕ → ℕ → List ℤ
@@ -26,4 +21,4 @@ weights_check p sheets row (word ∷ words) = first (untaken (takes_of p.unit) (
 
 -- all words are finite, and then the unit takes all weights
 abbrev pub run_check : Plan → Tile → List ℕ → Option Refusal
-run_check p words sheets = first (words_check 0 words) (weights_check p sheets 0 words)
+run_check p words sheets = first (tiles_check 0 words) (weights_check p sheets 0 words)

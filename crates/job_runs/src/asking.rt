@@ -16,7 +16,7 @@ use std::alloc::{AllocError, Global};
 type Calls<'a, W> = Vec<Call<'a, W, AnySheet<'a>>>;
 
 impl<'a, W: Copy> Material<'a, W> {
-    // Every tile is surveyed.
+    // Every tile is surveyed. (A loop for the same reason as that of the reads.)
     fn ask_surveys(&self, heap: Global) -> Result<Calls<'a, W>, AllocError>
         ensures { IfOk result (λ v. (f : Coding W) → events_of f v.items ≡ surveys (tile_of f self.now.words.now)) }
     {

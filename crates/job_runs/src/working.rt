@@ -5,8 +5,8 @@ ghost use Rattle.runs.specs.Checks.{setting};
 ghost use Rattle.calls.specs.Work.{is_aligned, state_of};
 ghost use Rattle.jobs.specs.Error.{MadeInMemory};
 ghost use Rattle.jobs.specs.Plan.{activation_bytes, weight_bytes};
-ghost use Rattle.jobs.specs.Survey.{coding_of};
-ghost use Rattle.job_runs.specs.Parts.{Fair, job_setting, words_of};
+ghost use Rattle.jobs.specs.Survey.{activations_tile, coding_of};
+ghost use Rattle.job_runs.specs.Parts.{Fair, job_setting};
 ghost use Rattle.job_runs.specs.Listing.{ListedAs, ListingOf, listing_check};
 
 use crate::material::Material;
@@ -75,7 +75,7 @@ fn list_unit<F: Format + Drop, U: Unit + Drop>(
     list_on(heap, material, opening)
 }
 
-// The same on the unit that the plan asks for.
+// The same on the unit that the plan asks for. Each unit is a type of its own, so each arm lists for itself.
 fn list_words<F: Format + Drop>(
     heap: Global,
     material: &Material<'_, F::Word>,
@@ -101,12 +101,12 @@ fn list_words<F: Format + Drop>(
     }
 }
 
-// The listing of a job that was read.
+// The listing of a job that was read. Each format is a type of its own, so each arm lists for itself.
 fn list_read(heap: Global, job: &Job) -> Result<Listing, JobError>
     requires fair { Fair job.now.plan }
     requires words { length job.now.activations.bytes.now ≡ activation_bytes job.now.plan }
     requires sheets { length job.now.weights.bytes.now ≡ weight_bytes job.now.plan }
-    ensures { ListedAs job.now.plan (words_of job.now.plan job.now.activations.bytes.now) job.now.weights.bytes.now result }
+    ensures { ListedAs job.now.plan (activations_tile job.now.plan job.now.activations.bytes.now) job.now.weights.bytes.now result }
 {
     let plan = job.plan;
     let weights = job.weights.bytes;

@@ -42,7 +42,7 @@ tile_passed tile (t ∷ more) size e =
     passed_by 0 tile (t ∷ more) (omega arith) e ∙ ap (λ r. tiles_check r (t ∷ more)) full ∙ next_tile 0 (t ∷ more)
 
 -- the largest exponent of a tile first, and then of the rest
-largest_append : (m : ℤ) (tile more : Tile) → largest m (tile ++ more) ≡ largest (largest m tile) more
+pub largest_append : (m : ℤ) (tile more : Tile) → largest m (tile ++ more) ≡ largest (largest m tile) more
 largest_append m [] more = refl
 largest_append m (None ∷ tile) more = largest_append m tile more
 largest_append m (Some d ∷ tile) more = largest_append (int_max m d.2) tile more

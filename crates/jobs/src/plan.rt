@@ -41,6 +41,7 @@ impl TryFrom<Trailer> for Plan {
         if trailer.mark != MARK || trailer.rows > MOST_ROWS {
             return Err(Refusal::UnknownCode);
         }
+        // Checked and not kept: a plan's fields are plain, so that one of any counts can be asked how many bytes it takes.
         Columns::new(usize::from(trailer.columns))?;
         ExtraBits::new(u32::from(trailer.extra))?;
         Ok(Plan {
