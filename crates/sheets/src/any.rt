@@ -39,6 +39,10 @@ impl Packing for AnyPacking {
         }
     }
 
+    fn any(self) -> AnyPacking {
+        self
+    }
+
     fn weight(self, bytes: &[u8], places: usize, place: usize) -> i16 {
         match self {
             AnyPacking::Byte(packing) => packing.weight(bytes, places, place),

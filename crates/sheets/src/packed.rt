@@ -5,7 +5,9 @@ ghost use Rattle.sheets.specs.Code.{byte_length};
 ghost use Rattle.sheets.specs.Making.{length_check};
 
 use crate::Sheet;
+use crate::code::SheetCode;
 use crate::extent::Extent;
+use crate::making::AnySheet;
 use crate::packing::Packing;
 use refusals::Refusal;
 use std::alloc::AllocError;
@@ -18,7 +20,8 @@ pub struct Packed<'a, P: Packing> {
     ghost whole: { length bytes.now ≡ byte_length (P.code packing) (extent.rows * extent.columns.count) },
 }
 
-// By hand: a derive is refused for a generic struct with a ghost field.
+// By hand and field by field: a derive is refused for a generic struct with a ghost field, and the borrow checker does
+// not cover `*self` of one.
 impl<'a, P: Packing> Clone for Packed<'a, P> {
     ghost is_clone = { λ s t. (t.packing ≡ s.packing) × (t.extent ≡ s.extent) × (t.bytes ≡ s.bytes) };
 
@@ -36,6 +39,8 @@ impl<'a, P: Packing> Clone for Packed<'a, P> {
 impl<'a, P: Packing> Copy for Packed<'a, P> {}
 
 impl<'a, P: Packing> Packed<'a, P> {
+    ghost use Rattle.sheets.specs.Meanings.{packed_meaning};
+
     // Refused where the bytes are not as many as the places take.
     pub(crate) fn over(packing: P, extent: Extent, bytes: &'a [u8]) -> Result<Self, Refusal>
         ensures { Made (length_check (P.code packing) (extent.rows * extent.columns.count) (length bytes.now)) (λ s. (s.packing ≡ packing) × (s.extent ≡ extent) × (s.bytes.now ≡ bytes.now)) result }
@@ -48,6 +53,29 @@ impl<'a, P: Packing> Packed<'a, P> {
             extent,
             bytes,
         })
+    }
+
+    // How the weights are packed.
+    pub fn code(&self) -> SheetCode
+        ensures { result ≡ P.code self.now.packing }
+    {
+        self.packing.code()
+    }
+
+    // The same sheet, as one whose packing is known only when the program runs.
+    pub fn into_any(self) -> AnySheet<'a>
+        ensures { packed_meaning result ≡ packed_meaning self.entry }
+    {
+        let Packed {
+            packing,
+            extent,
+            bytes,
+        } = self;
+        Packed {
+            packing: packing.any(),
+            extent,
+            bytes,
+        }
     }
 }
 

@@ -2,9 +2,11 @@
 ghost use Rattle.std.specs.Prelude.{◌≡◌, ◌<◌, length};
 ghost use Rattle.sheets.specs.declared.code.SheetCode.{SheetCode};
 ghost use Rattle.sheets.specs.declared.code.SheetCode.TheVariants.{Byte, Nibble};
+ghost use Rattle.sheets.specs.Any.{any_code};
 ghost use Rattle.sheets.specs.Code.{FewPlanes, byte_length};
 ghost use Rattle.sheets.specs.Packing.{weight_at};
 
+use crate::any::AnyPacking;
 use crate::bits::{nibble, signed};
 use crate::code::SheetCode;
 
@@ -14,6 +16,10 @@ pub trait Packing: Copy {
 
     fn code(self) -> SheetCode
         ensures { result ≡ code self };
+
+    // The same packing, as one of any.
+    fn any(self) -> AnyPacking
+        ensures { any_code result ≡ code self };
 
     // The weight of one of so many places.
     fn weight(self, bytes: &[u8], places: usize, place: usize) -> i16
@@ -36,6 +42,10 @@ impl Packing for Bytes {
         SheetCode::Byte
     }
 
+    fn any(self) -> AnyPacking {
+        AnyPacking::Byte(self)
+    }
+
     fn weight(self, bytes: &[u8], _places: usize, place: usize) -> i16 {
         signed(bytes[place], 128)
     }
@@ -53,6 +63,10 @@ impl Packing for Nibbles {
 
     fn code(self) -> SheetCode {
         SheetCode::Nibble
+    }
+
+    fn any(self) -> AnyPacking {
+        AnyPacking::Nibble(self)
     }
 
     fn weight(self, bytes: &[u8], _places: usize, place: usize) -> i16 {

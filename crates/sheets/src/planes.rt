@@ -5,6 +5,7 @@ ghost use Rattle.sheets.specs.declared.code.SheetCode.TheVariants.{Planes};
 ghost use Rattle.sheets.specs.Making.{planes_check};
 ghost use Rattle.sheets.specs.Packing.{bit_at, plane_sum, plane_term};
 
+use crate::any::AnyPacking;
 use crate::bits::{bit, plane_term};
 use crate::code::SheetCode;
 use crate::packing::Packing;
@@ -37,6 +38,10 @@ impl Packing for BitPlanes {
 
     fn code(self) -> SheetCode {
         SheetCode::Planes(self.count)
+    }
+
+    fn any(self) -> AnyPacking {
+        AnyPacking::Planes(self)
     }
 
     fn weight(self, bytes: &[u8], places: usize, place: usize) -> i16 {

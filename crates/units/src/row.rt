@@ -1,4 +1,4 @@
-// What a unit adds: a row that it has checked.
+// What a unit adds: a number and weights, within the bounds that every unit keeps to.
 ghost use Rattle.std.specs.Prelude.{◌≡◌, ◌^◌, ◌<◌, ◌≤◌, length, unsigned_abs};
 ghost use Rattle.refusals.specs.Refusing.{Made};
 ghost use Rattle.units.specs.Meaning.{Bounded, number_check};
