@@ -2,10 +2,9 @@
 use Rattle.std.proofs.Common.{◌≡◌, ℕ, zero, suc, ◌+◌, ◌*◌, ◌/◌, ◌%◌, ◌^◌, ◌<◌, ◌≤◌, min, not, eqb, ℤ, pos, negsuc, ◌+ℤ◌, ◌-ℤ◌, ◌*ℤ◌, neg_ℤ, nat_abs, ◌≤ℤ◌, sym, refl, ap, ◌∙◌, subst, ⊎_elim, mod-eq_of_lt, mul_assoc, suc-mul, mul_comm, add-mul, mul-le-mul_left, one-mul, div-add-mod', mul_right_comm, arith, pow_pos, pow_mono, pow-add, w64, SFits}
 use native.Mathlib.Nat.{mul-div-mul_right, div-eq_of_lt, zero-div}
 use lib.Signed.{quot_z}
-use Rattle.std.proofs.lemmas.Int.{ints}
+use Rattle.std.proofs.lemmas.Int.{ints, unsigned_abs-mul}
 use Rattle.std.proofs.lemmas.Bool.{cases_lt, ne_eqb}
 use Rattle.sums.specs.Terms.{value, cut, lost, step_of}
-use Rattle.integers.proofs.Laws.{abs_product}
 use Rattle.formats.specs.Coding.{Decoded}
 
 -- ---- n × 2^e by 2^k, and n × 2^x by 2^b, where e + b is k + x
@@ -80,6 +79,6 @@ module _ (d : Decoded) (shared : ℤ) (x : ℕ) (signed : nat_abs d.0 ≡ 1) (lo
 
   pub lost_is : not (eqb ((d.1 * 2 ^ x) % 2 ^ nat_abs (shared -ℤ d.2)) 0) ≡ lost (step_of shared x) (value d)
   lost_is =
-      let size : nat_abs (value d) ≡ d.1 * 2 ^ nat_abs (d.2 +ℤ pos 412) = abs_product d.0 (pos (d.1 * 2 ^ nat_abs (d.2 +ℤ pos 412))) ∙ ap (λ z. z * (d.1 * 2 ^ nat_abs (d.2 +ℤ pos 412))) signed ∙ one-mul _ in
+      let size : nat_abs (value d) ≡ d.1 * 2 ^ nat_abs (d.2 +ℤ pos 412) = unsigned_abs-mul d.0 (pos (d.1 * 2 ^ nat_abs (d.2 +ℤ pos 412))) ∙ ap (λ z. z * (d.1 * 2 ^ nat_abs (d.2 +ℤ pos 412))) signed ∙ one-mul _ in
       ap not (sym (same_rest d.1 (nat_abs (d.2 +ℤ pos 412)) (nat_abs (shared -ℤ pos x +ℤ pos 412)) x (nat_abs (shared -ℤ d.2)) level))
       ∙ sym (ap (λ z. not (eqb (z % step_of shared x) 0)) size)

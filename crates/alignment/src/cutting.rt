@@ -18,7 +18,8 @@ pub struct Aligned {
     pub lost: bool,
 }
 
-// The words of a tile in whole steps, each in its row.
+// The words of a tile in whole steps, each in its row. (Format and words are no one struct, here and in what follows: a
+// run has the one for good, and each call brings the other.)
 pub fn cut_tile<F: Format>(
     format: &F,
     words: &[F::Word],

@@ -27,6 +27,7 @@ fn survey_tile<F: Format>(format: &F, shared: i32, words: &[F::Word]) -> Result<
         return Err(Refusal::TooManyWords);
     }
     let mut top = shared;
+    // With the row, which a refusal names, and word by word, which is the rule for a survey.
     for (row, word) in words.iter().enumerate() {
         let Some((_, _, exponent)) = format.decode(*word) else {
             return Err(Refusal::NotFinite { row });

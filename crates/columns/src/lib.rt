@@ -10,7 +10,8 @@ use refusals::Refusal;
 // The most columns there can be.
 pub const MOST_COLUMNS: usize = 16;
 
-// 1 to 16 columns.
+// 1 to 16 columns. (Every number that is checked where it is made is a type of its own, here and in the crates above: of a
+// generic one, the range, the refusal and the meaning would all be parameters.)
 #[derive(Clone, Copy)]
 pub struct Columns {
     count: usize,

@@ -28,7 +28,8 @@ pub trait Format {
     fn greatest(&self) -> i32
         ensures { result ≡ (meaning self.now).greatest };
 
-    // The sign (1 or -1), the significand and the exponent of a finite word. The sign is a number: the value is the product.
+    // The sign (1 or -1), the significand and the exponent of a finite word: three plain numbers, by a rule of the module, so
+    // that a format of one's own needs none of its types. The sign is a number: the value is the product.
     fn decode(&self, word: Self::Word) -> Option<(i8, u32, i32)>
         ensures value { result ≡ (meaning self.now).decode word };
 

@@ -90,9 +90,6 @@ abbrev stated : Meaning → ℕ → List ℤ → Meaning
 stated b rows ts = record { rows = rows; limit = 65536; totals = ts; takes = b.takes }
 
 -- ---- moving up
-pub on_alike : {b b' : Meaning} {rows rows' : ℕ} {sums sums' : List ℤ} → b ≡ b' → rows ≡ rows' → sums ≡ sums' → drain_on b rows sums ≡ drain_on b' rows' sums'
-on_alike {b} {b'} {rows} {rows'} {sums} p q r = ap (λ n. drain_on n rows sums) p ∙ ap (λ n. drain_on b' n sums) q ∙ ap (drain_on b' rows') r
-
 -- it changes nothing that shows
 moves_show : (s : DrainState) → columns_of s.below ≤ length s.sums → drain (moved_up s) ≡ drain s
 moves_show s wide =

@@ -13,7 +13,8 @@ const LIMIT: u32 = 65_536;
 #[derive(Drop)]
 pub struct Drain<U: Unit> {
     below: U,
-    // What was moved up: the rows, and a sum for each column, in room for all that a unit may have.
+    // What was moved up: the rows, and a sum for each column that a unit may have. (A vector of as many as the one below has
+    // would be one more length to keep equal.)
     rows: u32,
     sums: [i64; MOST_COLUMNS],
     ghost wide: { length sums ≡ 16 },

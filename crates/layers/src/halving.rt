@@ -1,10 +1,11 @@
 // The odd layer: a unit that takes only odd weights takes every weight through it, since 2w + 1 is odd. As
 // a × (2w + 1) is twice a × w, and a, a total below is twice the layer's and the sum of all aligned numbers.
-ghost use Rattle.std.specs.Prelude.{◌≡◌, ◌*◌, ◌^◌, ◌≤◌, map, length, take, unsigned_abs};
+ghost use Rattle.std.specs.Prelude.{◌≡◌, ◌*◌, ◌^◌, ◌≤◌, map, unsigned_abs};
 ghost use Rattle.refusals.specs.Refusing.{verdict};
 ghost use Rattle.units.specs.Meaning.{Bounded, add_check, after_add, cleared};
 ghost use Rattle.layers.specs.Halving.{odd_of};
 
+use arrayvec::ArrayVec;
 use columns::MOST_COLUMNS;
 use refusals::Refusal;
 use units::{Row, Unit};
@@ -20,14 +21,15 @@ pub struct Odd<U: Unit> {
     ghost bounded: { unsigned_abs sum ≤ rows * 2 ^ 36 },
 }
 
-// Writes 2w + 1 for each weight w of the row.
-fn double(row: Row<'_>, doubled: &mut [i16; MOST_COLUMNS])
-    ensures { take (length row.entry.weights.now) doubled.new ≡ map odd_of row.entry.weights.now }
+// 2w + 1 for each weight w of the row.
+fn doubled(row: Row<'_>) -> ArrayVec<i16, MOST_COLUMNS>
+    ensures { result.items ≡ map odd_of row.entry.weights.now }
 {
-    // By column: of `iter_mut` zipped with the weights a proof would know no element.
-    for (column, weight) in row.weights.iter().enumerate() {
-        doubled[column] = 2 * *weight + 1;
+    let mut doubled = ArrayVec::new();
+    for weight in row.weights {
+        doubled.push(2 * *weight + 1);
     }
+    doubled
 }
 
 // Hands a row down, with 2w + 1 for each weight w.
@@ -35,9 +37,7 @@ fn add_odd<U: Unit>(below: &mut U, row: Row<'_>) -> Result<(), Refusal>
     ensures answers { result ≡ verdict (add_check (U.Unit.meaning below.old) row.entry.number.value (map odd_of row.entry.weights.now)) }
     ensures grows { U.Unit.meaning below.new ≡ after_add (U.Unit.meaning below.old) row.entry.number.value (map odd_of row.entry.weights.now) }
 {
-    let mut doubled = [0; MOST_COLUMNS];
-    double(row, &mut doubled);
-    below.add(row.number.value, &doubled[..row.weights.len()])
+    below.add(row.number.value, doubled(row).as_slice())
 }
 
 impl<U: Unit> Odd<U> {

@@ -1,5 +1,5 @@
 -- From checks to answers, and back.
-use Rattle.std.proofs.Common.{◌≡◌, ℕ, Bool, true, false, Some, None, Ok, Err, Option, Result, sym, refl, ap, ◌∙◌, subst, arith}
+use Rattle.std.proofs.Common.{◌≡◌, ℕ, Bool, true, false, Some, None, Ok, Err, Option, Result, IsOk, sym, refl, ap, ◌∙◌, subst, arith}
 use Rattle.refusals.specs.declared.Refusal.{Refusal}
 use Rattle.refusals.specs.Refusing.{refuse, first, answer, unless, Made}
 
@@ -46,11 +46,13 @@ pub was_refused : {X : Type 0} (o : Option Refusal) (P : X → Type 0) (r : Refu
 was_refused None P r m = absurd m
 was_refused (Some s) P r m = ap Some (sym m)
 
+pub made_ok : {X : Type 0} (o : Option Refusal) (P : X → Type 0) (r : Result X Refusal) → o ≡ None → Made o P r → IsOk r
+made_ok None P (Ok x) e m = refl
+made_ok None P (Err r) e m = absurd m
+made_ok (Some s) P r e m = absurd (none_some e refl)
+
 pub when_made : {X : Type 0} (o : Option Refusal) (P : X → Type 0) (r : Result X Refusal) (x : X) → r ≡ Ok x → Made o P r → (o ≡ None) × P x
 when_made o P r x is m = was_made o P x (subst (λ (y : Result _ Refusal). Made o P y) is m)
-
-pub when_refused : {X : Type 0} (o : Option Refusal) (P : X → Type 0) (r : Result X Refusal) (e : Refusal) → r ≡ Err e → Made o P r → o ≡ Some e
-when_refused o P r e is m = was_refused o P e (subst (λ (y : Result _ Refusal). Made o P y) is m)
 
 -- ---- one check after another
 pub first_refuses : {o : Option Refusal} {r : Refusal} (later : Option Refusal) → o ≡ Some r → first o later ≡ Some r

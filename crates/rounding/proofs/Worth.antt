@@ -3,7 +3,7 @@ use Rattle.std.proofs.Common.{◌≡◌, ℕ, ◌*◌, ◌^◌, cond, ℤ, pos, 
 use native.Mathlib.Nat.{eq_of_mul-eq-mul_right}
 use lib.Ieee.{up, down}
 use lib.Ieee.Fits.{down_pos}
-use Rattle.integers.proofs.Laws.{abs_product}
+use Rattle.std.proofs.lemmas.Int.{unsigned_abs-mul}
 use Rattle.formats.specs.Coding.{Decoded}
 use Rattle.rounding.specs.Word.{below_zero}
 use Rattle.rounding.specs.Nearest.{amount, exactly, Worth}
@@ -23,9 +23,9 @@ module _ (total step : ℤ) (d : Decoded) (low : neg_ℤ (pos 149) ≤ℤ d.2) w
       let same : d.1 * up e * down step ≡ nat_abs total * (up step * down e) =
       sym (one-mul (d.1 * up e * down step))
       ∙ ap (λ (x : ℕ). x * (d.1 * up e * down step)) (sym unit)
-      ∙ sym (abs_product d.0 (pos (d.1 * up e * down step)))
+      ∙ sym (unsigned_abs-mul d.0 (pos (d.1 * up e * down step)))
       ∙ ap nat_abs worth
-      ∙ abs_product total (pos (up step * down e)) in
+      ∙ unsigned_abs-mul total (pos (up step * down e)) in
       eq_of_mul-eq-mul_right (down e) (down_pos e) (amount d * down step) (exactly total step)
       (mul_right_comm (amount d) (down step) (down e)
       ∙ ap (λ (x : ℕ). x * down step) (sym (amount_worth d.1 e low))

@@ -34,7 +34,8 @@ pub fn nearest_binary32(total: i64, step: i32) -> u32
     if total < 0 { SIGN + rest } else { rest }
 }
 
-// The word of `magnitude` times 2 to the power `step`, without its sign.
+// The word of `magnitude` times 2 to the power `step`, without its sign. (That it is at most 2^63, as two numbers below are
+// on other scales, is no type: it would name nothing but the bound.)
 fn unsigned_word(magnitude: u64, step: i32) -> u32
     requires { magnitude ≤ 2 ^ 63 }
     ensures value { result ≡ unsigned_word magnitude step }

@@ -34,9 +34,6 @@ pub record Midway (start run : State) (p : Page) (ts : Tile) (i : ℕ) : Type 0 
   pub passing : rows_check start.shared start.unit.takes p i (drop i ts) ≡ None
   pub rest : fold add_row run (rows_of p i (drop i ts)) ≡ fold add_row start (rows_of p 0 ts)
 
-pub midway_none : (s : State) (p : Page) (ts : Tile) → rows_check s.shared s.unit.takes p 0 ts ≡ None → Midway s s p ts 0
-midway_none s p ts h = record { shared = refl; setting = refl; rows = omega arith; unit_rows = omega arith; passing = h; rest = refl }
-
 module _ (start run : State) (p : Page) (ts : Tile) (i : ℕ) (m : Midway start run p ts i) where
   pub midway_all : length ts ≤ i → run ≡ fold add_row start (rows_of p 0 ts)
   midway_all h = sym (ap (λ rest. fold add_row run (rows_of p i rest)) (drop_all i ts h)) ∙ m.rest

@@ -11,7 +11,6 @@ ghost use Rattle.runs.specs.Log as log;
 ghost use Rattle.runs.specs.Runs.{aligned, surveying};
 
 use crate::{AlignedRun, Reading, SurveyingRun};
-use alignment::SharedExponent;
 use formats::Format;
 use refusals::Refusal;
 use rounding::nearest_binary32;
@@ -42,18 +41,11 @@ impl<F: Format, U: Unit> AlignedRun<F, U> {
     {
         let AlignedRun {
             format,
-            mut unit,
+            unit,
             step,
             rows: _,
             slacks: _,
         } = self;
-        unit.clear();
-        let shared = SharedExponent::least(&format);
-        SurveyingRun {
-            format,
-            unit,
-            extra: step.extra,
-            shared,
-        }
+        SurveyingRun::open(format, unit, step.extra)
     }
 }

@@ -110,7 +110,7 @@ impl<F: Format, U: Unit> AlignedRun<F, U> {
         ensures logs { Logged (log.feed (tile_of (F.Format.meaning self.old.format) words.now) (S.Sheet.meaning sheet.now)) (aligned F.Format.meaning U.Unit.meaning self.old) (aligned F.Format.meaning U.Unit.meaning self.new) (fed_check (aligned F.Format.meaning U.Unit.meaning self.old) (tile_of (F.Format.meaning self.old.format) words.now) (S.Sheet.meaning sheet.now)) }
     {
         self.check_tile(words, sheet)?;
-        let cuts = cut_tile(&self.format, words, self.step)?;
+        let cuts = cut_tile(&self.format, words, self.step).unwrap();
         let mut buffer = [0; MOST_COLUMNS];
         for (row, cut) in cuts.iter().enumerate() {
             self.add_row(*cut, line_of(sheet, row, &mut buffer));

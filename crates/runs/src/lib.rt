@@ -29,7 +29,8 @@ pub struct AlignedRun<F, U> {
     step: Step,
     // The rows fed since opening or clear.
     rows: u32,
-    // For each column, the most that cutting can have moved its total, in steps.
+    // For each column that a unit may have, the most that cutting can have moved its total, in steps. (A vector of as many
+    // as the unit has would be one more length to keep equal.)
     slacks: [u32; MOST_COLUMNS],
     ghost wide: { length slacks ≡ 16 },
     ghost short: { rows ≤ 65536 },

@@ -9,6 +9,7 @@ use crate::packing::{Bytes, Nibbles, Packing};
 use crate::planes::BitPlanes;
 use refusals::Refusal;
 
+// A `SheetCode` beside it may have 0 or 200 planes: it names a packing, and this is one.
 #[derive(Clone, Copy)]
 pub enum AnyPacking {
     Byte(Bytes),
@@ -16,10 +17,13 @@ pub enum AnyPacking {
     Planes(BitPlanes),
 }
 
-impl AnyPacking {
-    pub(crate) fn new(code: SheetCode) -> Result<AnyPacking, Refusal>
-        ensures { Made (planes_check code) (λ p. any_code p ≡ code) result }
-    {
+// Refused where there are no planes or more than 8.
+impl TryFrom<SheetCode> for AnyPacking {
+    type Error = Refusal;
+
+    ghost try_from_gives = { λ code r. Made (planes_check code) (λ p. any_code p ≡ code) r };
+
+    fn try_from(code: SheetCode) -> Result<Self, Refusal> {
         Ok(match code {
             SheetCode::Byte => AnyPacking::Byte(Bytes),
             SheetCode::Nibble => AnyPacking::Nibble(Nibbles),

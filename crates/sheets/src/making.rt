@@ -20,7 +20,7 @@ pub type NibbleSheet<'a> = Packed<'a, Nibbles>;
 
 pub type PlaneSheet<'a> = Packed<'a, BitPlanes>;
 
-// Its packing is known only when the program runs.
+// Its packing is known only when the program runs. What each is made of differs, so each has a `new` of its own.
 pub type AnySheet<'a> = Packed<'a, AnyPacking>;
 
 impl<'a> Packed<'a, Bytes> {
@@ -64,6 +64,6 @@ impl<'a> Packed<'a, AnyPacking> {
         ensures { Made (making_check code rows columns (length bytes.now)) (λ s. packed_meaning s ≡ page code rows columns bytes.now) result }
     {
         let extent = Extent::new(rows, columns)?;
-        Packed::over(AnyPacking::new(code)?, extent, bytes)
+        Packed::over(AnyPacking::try_from(code)?, extent, bytes)
     }
 }

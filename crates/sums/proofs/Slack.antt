@@ -4,14 +4,15 @@ use lib.Signed.{rem_z}
 use borrow.Author.Differences.{ints}
 use Rattle.std.specs.List.{AllByRecursion}
 use Rattle.std.proofs.lemmas.Bool.{eqb-true}
+use Rattle.std.proofs.lemmas.Int.{quot-rem, unsigned_abs-mul}
 use Rattle.sums.specs.Terms.{Term, cut, lost, loss, total, slack, exact}
 use Rattle.sums.specs.Laws.{Tells, Harmless}
-use Rattle.integers.proofs.Laws.{abs_sum, abs_product, sum_product, product_swap, quotient_rest, abs_rest}
+use Rattle.integers.proofs.Laws.{abs_sum, sum_product, product_swap, abs_rest}
 
 -- what a term's cut leaves out is its rest times its weight
 left_out : (s : ℕ) (v w : ℤ) → v *ℤ w ≡ (cut s v *ℤ w) *ℤ pos s +ℤ rem_z v (pos s) *ℤ w
 left_out s v w =
-    ap (λ x. x *ℤ w) (quotient_rest v s) ∙ sum_product (cut s v *ℤ pos s) (rem_z v (pos s)) w
+    ap (λ x. x *ℤ w) (sym (quot-rem v (pos s))) ∙ sum_product (cut s v *ℤ pos s) (rem_z v (pos s)) w
     ∙ ap (λ x. x +ℤ rem_z v (pos s) *ℤ w) (sym (product_swap (cut s v) w s))
 
 -- the rest is below s, and 0 unless the term is lost
@@ -22,7 +23,7 @@ rest_small s r w false h e = rw (mul_comm r w) (mul-le-mul_left w (omega arith))
 -- so a term is left out by at most its loss times s - 1
 part_small : (s : ℕ) (t : Term) → 0 < s → nat_abs (rem_z t.value (pos s) *ℤ t.weight) ≤ loss s t * (s - 1)
 part_small s t h =
-    rw (abs_product, abs_rest) (rest_small s (nat_abs t.value % s) (nat_abs t.weight) (eqb (nat_abs t.value % s) 0) (mod-lt _ h) refl)
+    rw (unsigned_abs-mul, abs_rest) (rest_small s (nat_abs t.value % s) (nat_abs t.weight) (eqb (nat_abs t.value % s) 0) (mod-lt _ h) refl)
 
 -- the exact sum lies at most slack × (step - 1) from the total
 pub off : (s : ℕ) (ts : List Term) → 0 < s → nat_abs (exact ts -ℤ total s ts *ℤ pos s) ≤ slack s ts * (s - 1)

@@ -3,17 +3,17 @@ use Rattle.std.specs.Prelude.{◌≡◌, ℕ, zero, suc, ◌+◌, ◌*◌, ◌^�
 use Rattle.std.proofs.Common.{sym, ap, arith, le_of_suc-le-suc, add-one, ⊎_elim}
 use Rattle.std.proofs.Math.IntN.{+ℤ_idr, *ℤ-zero}
 use Rattle.std.specs.Int.{w64}
-use Rattle.std.proofs.lemmas.Int.{ints}
+use Rattle.std.proofs.lemmas.Int.{ints, unsigned_abs-mul}
 use Rattle.std.proofs.lemmas.Nat.{mul-le}
 use Rattle.std.proofs.lemmas.Bool.{cases_lt}
 use Rattle.std.proofs.lemmas.List.{get_or_past, length-map, take-map}
-use Rattle.integers.proofs.Laws.{abs_product, abs_sum}
+use Rattle.integers.proofs.Laws.{abs_sum}
 use Rattle.units.specs.Meaning.{Bounded, reach, plus_each, grown}
 
 -- ---- one number
 -- what one row adds
 pub row_reach : (a w : ℤ) → unsigned_abs a < 2 ^ 36 → unsigned_abs w ≤ 255 → unsigned_abs (a *ℤ w) ≤ 255 * 2 ^ 36
-row_reach a w small weight = omega (arith, abs_product a w, mul-le (unsigned_abs a) (unsigned_abs w) (2 ^ 36) 255 (omega arith) weight)
+row_reach a w small weight = omega (arith, unsigned_abs-mul a w, mul-le (unsigned_abs a) (unsigned_abs w) (2 ^ 36) 255 (omega arith) weight)
 
 pub product_fits : (a w : ℤ) → unsigned_abs a < 2 ^ 36 → unsigned_abs w ≤ 255 → FitsSigned w64 (a *ℤ w)
 product_fits a w small weight = let r = row_reach a w small weight in omega (arith, ints)

@@ -1,7 +1,6 @@
 use Rattle.std.proofs.Common.{◌≡◌, ◌*◌, ◌/◌, ◌%◌, ◌^◌, ◌<◌, min, not, eqb, pos, ◌-ℤ◌, ◌*ℤ◌, nat_abs, refl, ap, ◌∙◌, mod-eq_of_lt, div-le_self, arith, rules, w64, to_z, of_z}
 use Rattle.std.proofs.lemmas.Nat.{one_shl}
-use Rattle.std.proofs.lemmas.Int.{ints, to_z-of_z, to_z_pos}
-use Rattle.integers.proofs.Laws.{abs_product}
+use Rattle.std.proofs.lemmas.Int.{ints, to_z-of_z, to_z_pos, unsigned_abs-mul}
 use Rattle.alignment.proofs.Values.{capped, fits_small, scaled_small, cut_is, lost_is}
 use Rattle.alignment.proofs.cutting.cut_value.Goals as goal
 
@@ -49,7 +48,7 @@ product c =
 size : (c : goal.After-from-2) → nat_abs (to_z w64 (of_z w64 c.from-2.result) *ℤ to_z w64 ((c.from.result * 2 ^ c.args.step.extra.bits) % 2 ^ 64 / 2 ^ c.min-places.result)) < 2 ^ 36
 size c =
     let left = c.args.decoded.1 * 2 ^ c.args.step.extra.bits / 2 ^ nat_abs (c.args.step.shared.exponent -ℤ c.args.decoded.2) in
-    omega (arith, ap nat_abs (product c) ∙ abs_product c.args.decoded.0 (pos left) ∙ ap (λ k. k * left) c.requires.sign, small c, magnitude c)
+    omega (arith, ap nat_abs (product c) ∙ unsigned_abs-mul c.args.decoded.0 (pos left) ∙ ap (λ k. k * left) c.requires.sign, small c, magnitude c)
 
 pub overflow_mul-result : goal.overflow_mul-result
 overflow_mul-result c = fits_small _ (size c)
