@@ -19,29 +19,12 @@ pub mapped : (o : Option Refusal) (r : Result (Unit {0}) Refusal) (a : Answer) (
 mapped None r a P is done cases = done (subst (λ (x : Result (Unit {0}) Refusal). MatchResult x P (λ e. a ≡ Err e)) is cases)
 mapped (Some e) r a P is done cases = subst (λ (x : Result (Unit {0}) Refusal). MatchResult x P (λ e. a ≡ Err e)) is cases
 
--- a false test is not true
-pub untrue : {X : Type 0} → ◌≡◌ {A = Bool} false true → X
-untrue e = absurd (let z : ◌≡◌ {A = ℕ} 0 1 = cc in omega arith)
-
--- an aligned run that allows a call, which is neither feed nor read, is cleared
-pub clear_only : {W S : Type 0} (f : Coding W) (page : S → Page) (call : Call W S) → allowed true (event_of f page call) ≡ true
-    → ((x : Bor (List W)) (y : S) → call ≡ Feed x y → ⊥) → ((x : ℕ) → call ≡ Read x → ⊥) → call ≡ Clear
-clear_only f page (Survey x) ok not-feed not-read = untrue ok
-clear_only f page Fix ok not-feed not-read = untrue ok
-clear_only f page (Feed x y) ok not-feed not-read = absurd (not-feed x y refl)
-clear_only f page (Read x) ok not-feed not-read = absurd (not-read x refl)
-clear_only f page Clear ok not-feed not-read = refl
-
-module _ {F U W S : Type 0} (coding : F → Coding W) (meaning : U → Meaning) (page : S → Page) where
-  -- what making a call is to show
-  abbrev pub Makes : Run F U → Call W S → Run F U → Answer → Type 0
-  Makes self call out a =
-      let e = event_of (coding (format_of self)) page call in
-      (format_of out ≡ format_of self) × (is_aligned out ≡ aligned_after e) × Follows e (state_of coding meaning self) a (state_of coding meaning out)
-
-  -- the same, whichever names the run and the call go by
-  pub makes_at : (self run : Run F U) (given call : Call W S) (out : Run F U) (a : Answer) → self ≡ run → given ≡ call → Makes run call out a → Makes self given out a
-  makes_at self run given call out a p q m = subst (λ (r : Run F U). Makes r given out a) (sym p) (subst (λ (k : Call W S). Makes run k out a) (sym q) m)
+-- that a call is made as the log says, whichever names the run and the call go by
+pub follows_at : {F U W S : Type 0} (coding : F → Coding W) (meaning : U → Meaning) (page : S → Page) (self run : Run F U) (given call : Call W S) (a : Answer) (t : State)
+    → self ≡ run → given ≡ call → Follows (event_of (coding (format_of run)) page call) (state_of coding meaning run) a t → Follows (event_of (coding (format_of self)) page given) (state_of coding meaning self) a t
+follows_at coding meaning page self run given call a t p q m =
+    subst (λ (r : Run _ _). Follows (event_of (coding (format_of r)) page given) (state_of coding meaning r) a t) (sym p)
+    (subst (λ (k : Call _ _). Follows (event_of (coding (format_of run)) page k) (state_of coding meaning run) a t) (sym q) m)
 
 -- a call whose answer is that of its checks
 pub follows : (e : Event) (s t : State) (a : Answer) (o : Option Refusal) → a ≡ answer o None → Logged e s t o → (l : Log) → Holds l s → (a ≡ answer (refusal l e) None) × Holds (after l e) t

@@ -21,6 +21,7 @@ pub enum WorkError {
     Memory(AllocError),
 }
 
+// By hand, as the next: what `#[from]` derives has no contract.
 impl From<Misplaced> for WorkError {
     ghost from_gives = { λ misplaced e. e ≡ error.Misplaced misplaced };
 

@@ -20,27 +20,22 @@ impl<F: Format, U: Unit> Run<F, U> {
         ensures stage { is_aligned result.0 ≡ aligned_after (event_of (F.Format.meaning (format_of self)) S.Sheet.meaning call.now) }
         ensures follows { Follows (event_of (F.Format.meaning (format_of self)) S.Sheet.meaning call.now) (state_of F.Format.meaning U.Unit.meaning self) result.1 (state_of F.Format.meaning U.Unit.meaning result.0) }
     {
-        match self {
-            Run::Surveying(mut run) => match call {
-                Call::Survey(words) => {
-                    let answer = run.survey(words).map(|()| None);
-                    (Run::Surveying(run), answer)
-                }
-                // Fix: a surveying run allows no other call.
-                _ => (Run::Aligned(run.fix()), Ok(None)),
-            },
-            Run::Aligned(mut run) => match call {
-                Call::Feed(words, sheet) => {
-                    let answer = run.feed(words, sheet).map(|()| None);
-                    (Run::Aligned(run), answer)
-                }
-                Call::Read(column) => {
-                    let answer = run.read(*column).map(Some);
-                    (Run::Aligned(run), answer)
-                }
-                // Clear: an aligned run allows no other call.
-                _ => (Run::Surveying(run.clear()), Ok(None)),
-            },
+        match (self, call) {
+            (Run::Surveying(mut run), Call::Survey(words)) => {
+                let answer = run.survey(words).map(|()| None);
+                (Run::Surveying(run), answer)
+            }
+            (Run::Surveying(run), Call::Fix) => (Run::Aligned(run.fix()), Ok(None)),
+            (Run::Aligned(mut run), Call::Feed(words, sheet)) => {
+                let answer = run.feed(words, sheet).map(|()| None);
+                (Run::Aligned(run), answer)
+            }
+            (Run::Aligned(run), Call::Read(column)) => {
+                let answer = run.read(*column).map(Some);
+                (Run::Aligned(run), answer)
+            }
+            (Run::Aligned(run), Call::Clear) => (Run::Surveying(run.clear()), Ok(None)),
+            _ => unreachable(),
         }
     }
 }

@@ -9,7 +9,7 @@ held bound (negsuc n) = neg_ℤ (pos (min bound (suc n)))
 
 -- rows and totals as they are stated, or the limit and the bound where they would pass them
 abbrev pub shown : Meaning → Meaning
-shown m = let rows = min m.limit m.rows in record { rows = rows; limit = m.limit; totals = map (held (reach rows)) m.totals; takes = m.takes }
+shown m = let rows = min m.limit m.rows in record m { rows = rows; totals = map (held (reach rows)) m.totals }
 
 -- a call that can change a layer: an add, be it accepted or refused, or a clear
 pub data Event : Type 0 where

@@ -34,15 +34,15 @@ empty z = record { setting = z; aligned = false; shared = z.least; fed = [] }
 
 -- the larger of the shared exponent and every exponent in the tile
 abbrev pub raised : Log → Tile → Log
-raised l words = record { setting = l.setting; aligned = l.aligned; shared = largest l.shared words; fed = l.fed }
+raised l words = record l { shared = largest l.shared words }
 
 -- the run aligned
 abbrev pub settled : Log → Log
-settled l = record { setting = l.setting; aligned = true; shared = l.shared; fed = l.fed }
+settled l = record l { aligned = true }
 
 -- more rows
 abbrev pub with_rows : Log → List Row → Log
-with_rows l rows = record { setting = l.setting; aligned = l.aligned; shared = l.shared; fed = l.fed ++ rows }
+with_rows l rows = record l { fed = l.fed ++ rows }
 
 -- what refuses a call
 abbrev pub refusal : Log → Event → Option Refusal

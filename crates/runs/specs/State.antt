@@ -35,7 +35,7 @@ opened least extra unit = record { aligned = false; least = least; extra = extra
 
 -- another shared exponent
 abbrev pub sharing : State → ℤ → State
-sharing s shared = record { aligned = s.aligned; least = s.least; extra = s.extra; shared = shared; rows = s.rows; slacks = s.slacks; unit = s.unit }
+sharing s shared = record s { shared = shared }
 
 -- what a survey leaves: the larger of the shared exponent and every exponent in the tile, unless it is refused
 abbrev pub surveyed : State → Tile → State
@@ -43,7 +43,7 @@ surveyed s words = unless (survey_check words) s (sharing s (largest s.shared wo
 
 -- what fix leaves
 abbrev pub fixed : State → State
-fixed s = record { aligned = true; least = s.least; extra = s.extra; shared = s.shared; rows = s.rows; slacks = s.slacks; unit = s.unit }
+fixed s = record s { aligned = true }
 
 -- each slack grows by the magnitude of its weight
 abbrev pub widened : List ℕ → List ℤ → List ℕ
@@ -51,11 +51,7 @@ widened slacks weights = map (λ c. slice_index slacks c + unsigned_abs (slice_i
 
 -- a row more: the unit adds the aligned number, and where part of it was lost, the slacks grow
 abbrev pub put : State → ℤ → Bool → List ℤ → State
-put s number part-lost weights = record {
-  aligned = s.aligned;
-  least = s.least;
-  extra = s.extra;
-  shared = s.shared;
+put s number part-lost weights = record s {
   rows = s.rows + 1;
   slacks = cond part-lost (widened s.slacks weights) s.slacks;
   unit = added s.unit number weights;

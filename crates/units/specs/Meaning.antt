@@ -46,11 +46,11 @@ grown ts a ws = plus_each ts (map (λ w. a *ℤ w) ws)
 
 -- a unit with one row more
 abbrev pub added : Meaning → ℤ → List ℤ → Meaning
-added m a ws = record { rows = m.rows + 1; limit = m.limit; totals = grown m.totals a ws; takes = m.takes }
+added m a ws = record m { rows = m.rows + 1; totals = grown m.totals a ws }
 
 -- a unit with no rows
 abbrev pub cleared : Meaning → Meaning
-cleared m = record { rows = 0; limit = m.limit; totals = replicate (columns_of m) (pos 0); takes = m.takes }
+cleared m = record m { rows = 0; totals = replicate (columns_of m) (pos 0) }
 
 -- the first column whose weight is not taken
 abbrev pub first_untaken : (ℤ → Bool) → List ℤ → Option ℕ
