@@ -4,7 +4,7 @@
 #[cfg(test)]
 mod tests {
     use alignment::ExtraBits;
-    use calls::{Answer, Call, Opening, WorkError, work, work_both};
+    use calls::{Answer, Call, Misplaced, Opening, WorkError, work, work_both};
     use formats::{Binary16, Binary32};
     use layers::{Drain, Odd};
     use planes::Plane;
@@ -93,10 +93,8 @@ mod tests {
             unit: Multiplier::new(1)?,
             extra: ExtraBits::new(0)?,
         };
-        match work(rt.alloc(), opening, &calls) {
-            Err(WorkError::Misplaced(misplaced)) => assert_eq!(rt; misplaced.call, 2),
-            _ => assert!(rt; false),
-        }
+        let error = work(rt.alloc(), opening, &calls).err();
+        assert_eq!(rt; error, Some(WorkError::Misplaced(Misplaced { call: 2 })));
         Ok(())
     }
 }

@@ -15,7 +15,7 @@ mod tests {
         for _ in 0..128 {
             unit.add(1, &[1])?;
         }
-        assert!(rt; unit.add(1, &[1]) == Err(Refusal::RowLimit));
+        assert_eq!(rt; unit.add(1, &[1]), Err(Refusal::RowLimit));
         assert_eq!(rt; Refusal::RowLimit.number(), 3);
         assert_eq!(rt; unit.total(0)?, 128);
         Ok(())
@@ -56,10 +56,13 @@ mod tests {
     #[test]
     fn refusals_come_in_order(rt: HostRuntime) -> Result<(), Fail> {
         let mut unit = Drain::new(Plane::new(2)?);
-        assert!(rt; unit.add(1 << 36, &[2]) == Err(Refusal::WeightCount));
-        assert!(rt; unit.add(1 << 36, &[1, 2]) == Err(Refusal::NumberTooLarge));
-        assert!(rt; unit.add(1, &[1, 2]) == Err(Refusal::WeightNotTaken { column: 1 }));
-        assert!(rt; unit.total(2) == Err(Refusal::NoSuchColumn));
+        assert_eq!(rt; unit.add(1 << 36, &[2]), Err(Refusal::WeightCount));
+        assert_eq!(rt; unit.add(1 << 36, &[1, 2]), Err(Refusal::NumberTooLarge));
+        assert_eq!(rt;
+            unit.add(1, &[1, 2]),
+            Err(Refusal::WeightNotTaken { column: 1 })
+        );
+        assert_eq!(rt; unit.total(2), Err(Refusal::NoSuchColumn));
         Ok(())
     }
 }
