@@ -6,21 +6,17 @@ use Rattle.std.proofs.lemmas.List.{get_or_past, length-replicate}
 use Rattle.std.proofs.lemmas.Int.{to_z-of_z}
 use Rattle.std.proofs.lemmas.Bool.{cond-true, cond-false, cases_lt, not-false, eqb-true, leb-true, leb-false, le-leb, lt-leb}
 use Rattle.std.proofs.lemmas.Bool.Decides.{nat_tests}
+use Rattle.std.proofs.lemmas.Float.{T_from_true}
 use Rattle.refusals.specs.declared.Refusal.{Refusal}
 use Rattle.refusals.specs.declared.Refusal.TheVariants.{WeightNotTaken, NoSuchColumn}
 use Rattle.units.specs.declared.row.Number.{Number}
 use Rattle.units.specs.declared.row.Row.{Row}
-use Rattle.columns.specs.Columns.{columns_check}
 use Rattle.refusals.specs.Refusing.{refuse, verdict, unless, Made}
 use Rattle.std.specs.List.{position_from}
 use Rattle.std.specs.Option.{option_map}
 use Rattle.refusals.proofs.Refusing.{none_some, refused, accepted, changed, was_made, when_ok, when_err, passed}
 use Rattle.units.proofs.Reach.{length_plus, grown_bounded, zeros_bounded}
 use Rattle.units.specs.Meaning.{Meaning, Lawful, Bounded, columns_of, untaken, first_untaken, number_check, add_check, added, after_add, cleared, column_check, total_at, reach}
-
-pub T_from_true : (b : Bool) → b ≡ true → T b
-T_from_true true e = tt
-T_from_true false e = absurd (let z : ◌≡◌ {A = ℕ} 0 1 = cc in omega arith)
 
 -- ---- the checks of an add
 -- the other checks are passed, so the weights decide
@@ -137,10 +133,6 @@ cleared_lawful m law =
       taken = law.taken;
       bounded = zeros_bounded 0 (columns_of m);
     }
-
--- ---- a new unit
-pub columns_pass : (n : ℕ) → 1 ≤ n → n ≤ 16 → columns_check n ≡ None
-columns_pass n some few = grind (arith, nat_tests)
 
 -- ---- the question for a total
 not_met : (met : Bool) (r : Refusal) → refuse met r ≡ None → met ≡ false

@@ -1,12 +1,13 @@
 -- Lists of sums, one for each column, and how far they reach.
 use Rattle.std.specs.Prelude.{◌≡◌, ℕ, zero, suc, ◌+◌, ◌*◌, ◌^◌, ◌<◌, ◌≤◌, List, [], ◌∷◌, map, length, take, replicate, ℤ, pos, ◌+ℤ◌, ◌*ℤ◌, FitsSigned, slice_index_or, slice_set, unsigned_abs, refl}
-use Rattle.std.proofs.Common.{sym, ap, arith, le_of_suc-le-suc, add-one, ⊎_elim}
+use Rattle.std.proofs.Common.{sym, ap, ◌∙◌, arith, le_of_suc-le-suc, add-one, ⊎_elim}
 use Rattle.std.proofs.Math.IntN.{+ℤ_idr, *ℤ-zero}
 use Rattle.std.specs.Int.{w64}
 use Rattle.std.proofs.lemmas.Int.{ints, unsigned_abs-mul}
 use Rattle.std.proofs.lemmas.Nat.{mul-le}
 use Rattle.std.proofs.lemmas.Bool.{cases_lt}
-use Rattle.std.proofs.lemmas.List.{get_or_past, length-map, take-map}
+use Rattle.std.specs.List.{refill}
+use Rattle.std.proofs.lemmas.List.{get_or_past, length-map, take-map, take_at}
 use Rattle.integers.proofs.Laws.{abs_sum}
 use Rattle.units.specs.Meaning.{Bounded, reach, plus_each, grown}
 
@@ -55,13 +56,6 @@ get_or_plus_past (x ∷ xs) [] (suc i) = refl
 get_or_plus_past (x ∷ xs) (y ∷ ys) zero = refl
 get_or_plus_past (x ∷ xs) (y ∷ ys) (suc i) = get_or_plus_past xs ys i
 
--- a front of the sums grows as the whole does
-pub take_plus : (n : ℕ) (xs ys : List ℤ) → take n (plus_each xs ys) ≡ plus_each (take n xs) ys
-take_plus zero xs ys = refl
-take_plus (suc n) [] ys = refl
-take_plus (suc n) (x ∷ xs) [] = refl
-take_plus (suc n) (x ∷ xs) (y ∷ ys) = ap (λ zs. (x +ℤ y) ∷ zs) (take_plus n xs ys)
-
 pub get_or_scaled : (a : ℤ) (ws : List ℤ) (c : ℕ) → slice_index_or (map (λ w. a *ℤ w) ws) c (pos 0) ≡ a *ℤ slice_index_or ws c (pos 0)
 get_or_scaled a [] c = sym (*ℤ-zero a)
 get_or_scaled a (w ∷ ws) zero = refl
@@ -97,3 +91,10 @@ pub zeros_bounded : (k n : ℕ) → Bounded k (replicate n (pos 0))
 zeros_bounded k zero c = omega arith
 zeros_bounded k (suc n) zero = omega arith
 zeros_bounded k (suc n) (suc c) = zeros_bounded k n c
+
+-- a vector that is written through its slice has what was written, where that is as long
+pub written : {X : Type 0} (xs ws : List X) → length ws ≡ length xs → refill (length xs) xs ws ≡ ws
+written xs ws same = take_at ws _ (length xs) same
+
+pub grown_back : (ts after : List ℤ) (a : ℤ) (ws : List ℤ) → after ≡ grown ts a ws → refill (length ts) ts after ≡ grown ts a ws
+grown_back ts after a ws e = written ts after (ap length e ∙ length_plus ts _) ∙ e

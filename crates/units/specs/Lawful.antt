@@ -1,7 +1,6 @@
 -- The multiplier unit keeps the laws of a unit. Nothing here has to be believed: these are proofs, which the unit names.
-use Rattle.std.specs.Prelude.{◌≡◌, ℕ, zero, suc, Bool, true, false, T, List, [], ◌∷◌, length, take, ℤ, refl}
+use Rattle.std.specs.Prelude.{◌≡◌, ℕ, zero, suc, Bool, true, false, T, List, [], ◌∷◌, take, ℤ, refl}
 use Rattle.std.proofs.Common.{arith}
-use Rattle.std.proofs.lemmas.List.{length-take}
 use Rattle.std.proofs.lemmas.Bool.{leb-true}
 use Rattle.units.specs.declared.multiply.Multiplier.{Multiplier}
 use Rattle.units.specs.Meaning.{Lawful, Bounded}
@@ -21,13 +20,12 @@ take_bounded n (suc k) (x ∷ xs) b (suc c) = take_bounded n k xs (λ d. b (suc 
 
 pub multiplier_lawful : (u : Multiplier) → Lawful (multiplier u)
 multiplier_lawful u =
-    let counted : length (take u.columns.count u.sums) ≡ u.columns.count = simp length-take (omega (arith, u.wide, u.columns.few)) in
     record {
-      some_column = omega (arith, counted, u.columns.some);
-      few_columns = omega (arith, counted, u.columns.few);
+      some_column = u.some;
+      few_columns = u.few;
       some_row = omega arith;
       few_rows = omega arith;
       within = u.short;
       taken = λ w t. leb-true _ _ (true_from_T _ t);
-      bounded = take_bounded _ _ u.sums u.bounded;
+      bounded = u.bounded;
     }

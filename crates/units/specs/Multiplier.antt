@@ -1,5 +1,5 @@
 -- What the multiplier unit means.
-use Rattle.std.specs.Prelude.{ℕ, Bool, take, replicate, ℤ, pos, nat_le, unsigned_abs}
+use Rattle.std.specs.Prelude.{ℕ, Bool, replicate, ℤ, pos, nat_le, unsigned_abs}
 use Rattle.units.specs.declared.multiply.Multiplier.{Multiplier}
 use Rattle.units.specs.Meaning.{Meaning}
 
@@ -7,9 +7,9 @@ use Rattle.units.specs.Meaning.{Meaning}
 abbrev pub takes_every : ℤ → Bool
 takes_every w = nat_le (unsigned_abs w) 255
 
--- room for 128 rows, and for each column in use its sum as the total
+-- room for 128 rows, and for each column its sum as the total
 abbrev pub multiplier : Multiplier → Meaning
-multiplier u = record { rows = u.rows; limit = 128; totals = take u.columns.count u.sums; takes = takes_every }
+multiplier u = record { rows = u.rows; limit = 128; totals = u.sums.items; takes = takes_every }
 
 -- a new multiplier
 abbrev pub fresh_multiplier : ℕ → Meaning

@@ -6,6 +6,7 @@ ghost use Rattle.units.specs.Meaning.{Bounded, reach, grown};
 
 use crate::Unit;
 use crate::row::{Number, Row};
+use arrayvec::ArrayVec;
 use columns::{Columns, MOST_COLUMNS};
 use refusals::Refusal;
 
@@ -14,13 +15,12 @@ const LIMIT: u32 = 128;
 
 #[derive(Drop)]
 pub struct Multiplier {
-    columns: Columns,
     rows: u32,
-    // The first `columns` of these are the totals. A vector of fixed room would be filled by a loop when made and cleared.
-    sums: [i64; MOST_COLUMNS],
-    ghost wide: { length sums ≡ 16 },
+    sums: ArrayVec<i64, MOST_COLUMNS>,
+    ghost some: { 1 ≤ length sums.items },
+    ghost few: { length sums.items ≤ 16 },
     ghost short: { rows ≤ 128 },
-    ghost bounded: { Bounded (reach rows) sums },
+    ghost bounded: { Bounded (reach rows) sums.items },
 }
 
 // A sum with one product more.
@@ -32,14 +32,14 @@ fn raised(sum: i64, number: Number, weight: i16) -> i64
     sum + number.value * i64::from(weight)
 }
 
-// Grows each sum that has a weight by the number × that weight.
-fn grow(sums: &mut [i64; MOST_COLUMNS], row: Row<'_>)
-    requires { Bounded (reach 65536) sums.old }
+// Grows each sum by the number × its weight.
+fn grow(sums: &mut [i64], row: Row<'_>)
+    requires one_each { length row.weights.now ≡ length sums.old }
+    requires bounded { Bounded (reach 65536) sums.old }
     ensures { sums.new ≡ grown sums.old row.entry.number.value row.entry.weights.now }
 {
-    // By column: of `iter_mut` zipped with the weights a proof would know no element.
-    for (column, weight) in row.weights.iter().enumerate() {
-        sums[column] = raised(sums[column], row.number, *weight);
+    for (column, sum) in sums.iter_mut().enumerate() {
+        *sum = raised(*sum, row.number, row.weights[column]);
     }
 }
 
@@ -50,14 +50,14 @@ impl Multiplier {
         ensures { Made (columns_check columns) (λ u. multiplier u ≡ fresh_multiplier columns) result }
     {
         let columns = Columns::new(columns)?;
-        Ok(Multiplier {
-            columns,
-            rows: 0,
-            sums: [0; MOST_COLUMNS],
-        })
+        let mut sums = ArrayVec::from([0; MOST_COLUMNS]);
+        sums.truncate(columns.count());
+        Ok(Multiplier { rows: 0, sums })
     }
 }
 
+// Not one struct with the plane unit: a column's sums, the weights that are taken and how a row grows a sum all differ, so
+// that a trait over columns would have every line of both.
 impl Unit for Multiplier {
     ghost use Rattle.units.specs.Multiplier.{multiplier};
     ghost use Rattle.units.specs.Lawful.{multiplier_lawful};
@@ -67,7 +67,7 @@ impl Unit for Multiplier {
     ghost lawful = { multiplier_lawful };
 
     fn columns(&self) -> usize {
-        self.columns.count()
+        self.sums.len()
     }
 
     fn rows(&self) -> u32 {
@@ -83,11 +83,7 @@ impl Unit for Multiplier {
     }
 
     fn total(&self, column: usize) -> Result<i64, Refusal> {
-        if column < self.columns.count() {
-            Ok(self.sums[column])
-        } else {
-            Err(Refusal::NoSuchColumn)
-        }
+        self.sums.get(column).copied().ok_or(Refusal::NoSuchColumn)
     }
 
     fn add(&mut self, a: i64, weights: &[i16]) -> Result<(), Refusal> {
@@ -99,6 +95,6 @@ impl Unit for Multiplier {
 
     fn clear(&mut self) {
         self.rows = 0;
-        self.sums = [0; MOST_COLUMNS];
+        self.sums.fill(0);
     }
 }

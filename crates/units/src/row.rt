@@ -5,7 +5,8 @@ ghost use Rattle.units.specs.Meaning.{Bounded, number_check};
 
 use refusals::Refusal;
 
-// An aligned number, which lies below 2^36 in magnitude.
+// An aligned number, which lies below 2^36 in magnitude. One of the numbers that are checked once, where they are made; each
+// has a range, a refusal and a meaning of its own.
 #[derive(Clone, Copy)]
 pub struct Number {
     pub value: i64,
