@@ -1,16 +1,17 @@
 -- The plane unit: sums for the powers of two, and what adding a or -a to them does to what they weigh.
 use Rattle.std.specs.Prelude.{◌≡◌, ℕ, zero, suc, ◌+◌, ◌-◌, ◌*◌, ◌/◌, ◌%◌, ◌^◌, ◌<◌, ◌≤◌, Bool, true, false, cond, List, [], ◌∷◌, map, length, reverse, get_or, take, drop, set, replicate, ℤ, pos, ◌+ℤ◌, ◌*ℤ◌, neg_ℤ, ◌==◌, ◌≢◌, slice_index_or, slice_set, unsigned_abs, refl}
 use Rattle.std.proofs.Common.{sym, ap, subst, ◌∙◌, arith, le_of_suc-le-suc, pow-suc, div-one, add-one}
+use Rattle.std.specs.List.{refill}
 use Rattle.std.proofs.lemmas.Int.{ints}
 use Rattle.std.proofs.lemmas.Nat.{shr-shr}
-use Rattle.std.proofs.lemmas.List.{at_drop_more, length-take-le, length-reverse, get_or-map, get_or-take, get_or-reverse, get_or_default, take-replicate}
+use Rattle.std.proofs.lemmas.List.{at_drop_more, length-reverse, get_or-reverse, get_or_default, length-replicate}
 use Rattle.std.proofs.lemmas.Bool.{cond_both, and_parts, leb-true, eqb-true, eqb-false}
 use Rattle.units.specs.Meaning.{Bounded, plus_each, grown}
 use Rattle.planes.specs.Columns.{Eights, EachBounded, SignsWeigh, takes_odd, code, signed, signs, weigh, spread}
 use Rattle.units.specs.Lawful.{true_from_T}
-use Rattle.planes.specs.Lawful.{most, weigh_most, take_eights}
+use Rattle.planes.specs.Lawful.{most, weigh_most}
 use Rattle.integers.proofs.Laws.{product_sum}
-use Rattle.units.proofs.Reach.{length_plus, plus_bounded, plus_more, get_or_plus_past, zeros_bounded}
+use Rattle.units.proofs.Reach.{length_plus, plus_bounded, plus_more, get_or_plus_past, zeros_bounded, written}
 
 -- ---- what the sums weigh
 pub weigh_plus : (xs ys : List ℤ) → length xs ≡ length ys → weigh (plus_each xs ys) ≡ weigh xs +ℤ weigh ys
@@ -86,6 +87,10 @@ length_spread [] a ws = refl
 length_spread (c ∷ cs) a [] = refl
 length_spread (c ∷ cs) a (w ∷ ws) = ap suc (length_spread cs a ws)
 
+-- what the vector has that is spread through its slice
+pub spread_back : (cs after : List (List ℤ)) (a : ℤ) (ws : List ℤ) → after ≡ spread cs a ws → refill (length cs) cs after ≡ spread cs a ws
+spread_back cs after a ws e = written cs after (ap length e ∙ length_spread cs a ws) ∙ e
+
 pub spread_eights : (cs : List (List ℤ)) (a : ℤ) (ws : List ℤ) → Eights cs → Eights (spread cs a ws)
 spread_eights [] a ws e c h = e c h
 spread_eights (c ∷ cs) a [] e i h = e i h
@@ -99,27 +104,14 @@ spread_bounded n (c ∷ cs) a (w ∷ ws) small b zero j =
     omega (arith, plus_bounded (n * 2 ^ 36) (2 ^ 36) c (signs 8 a (code w)) (b 0) (signs_bounded 8 a (code w) (2 ^ 36) small) j)
 spread_bounded n (c ∷ cs) a (w ∷ ws) small b (suc i) j = spread_bounded n cs a ws small (λ k. b (suc k)) i j
 
-take_spread : (n : ℕ) (cs : List (List ℤ)) (a : ℤ) (ws : List ℤ) → take n (spread cs a ws) ≡ spread (take n cs) a ws
-take_spread zero cs a ws = refl
-take_spread (suc n) [] a ws = refl
-take_spread (suc n) (c ∷ cs) a [] = refl
-take_spread (suc n) (c ∷ cs) a (w ∷ ws) = ap (λ ds. plus_each c (signs 8 a (code w)) ∷ ds) (take_spread n cs a ws)
-
-spread_weighs : (cs : List (List ℤ)) (a : ℤ) (ws : List ℤ) → Eights cs → ((c : ℕ) → c < length ws → takes_odd (slice_index_or ws c (pos 0)) ≡ true) → map weigh (spread cs a ws) ≡ grown (map weigh cs) a ws
+-- what the totals become
+pub spread_weighs : (cs : List (List ℤ)) (a : ℤ) (ws : List ℤ) → Eights cs → ((c : ℕ) → c < length ws → takes_odd (slice_index_or ws c (pos 0)) ≡ true) → map weigh (spread cs a ws) ≡ grown (map weigh cs) a ws
 spread_weighs [] a ws e odd = refl
 spread_weighs (c ∷ cs) a [] e odd = refl
 spread_weighs (c ∷ cs) a (w ∷ ws) e odd =
     let column = weigh_plus c (signs 8 a (code w)) (e 0 (omega arith) ∙ sym (length_signs 8 a (code w))) ∙ ap (λ z. weigh c +ℤ z) (weigh_signs a w (odd 0 (omega arith))) in
     ap (λ t. t ∷ map weigh (spread cs a ws)) column
     ∙ ap (λ ts. (weigh c +ℤ a *ℤ w) ∷ ts) (spread_weighs cs a ws (λ j k. e (suc j) (omega arith)) (λ j k. odd (suc j) (omega arith)))
-
--- what the totals become
-pub plane_grows : (n : ℕ) (cs : List (List ℤ)) (a : ℤ) (ws : List ℤ) → Eights cs → ((c : ℕ) → c < length ws → takes_odd (slice_index_or ws c (pos 0)) ≡ true) → map weigh (take n (spread cs a ws)) ≡ grown (map weigh (take n cs)) a ws
-plane_grows n cs a ws e odd = ap (map weigh) (take_spread n cs a ws) ∙ spread_weighs (take n cs) a ws (take_eights n cs e) odd
-
-pub plane_at : (n : ℕ) (cs : List (List ℤ)) (c : ℕ) → c < n → n ≤ length cs → slice_index_or (map weigh (take n cs)) c (pos 0) ≡ weigh (slice_index_or cs c [])
-plane_at n cs c h k =
-    get_or-map weigh (take n cs) c [] (pos 0) (omega (arith, length-take-le n cs k)) ∙ ap weigh (get_or-take n cs c [] h)
 
 -- ---- loops
 weigh_drop : (n i : ℕ) (ss : List ℤ) → Bounded n ss → unsigned_abs (weigh (drop i ss)) ≤ most (length ss) n
@@ -199,19 +191,37 @@ pub spread_more : (cs : List (List ℤ)) (a : ℤ) (ws : List ℤ) (i : ℕ) →
 spread_more cs a ws i h k = rw add-one (spread_suc cs a ws i h k)
 
 -- ---- a new unit
-pub zero_eights : (n : ℕ) → Eights (replicate n (replicate 8 (pos 0)))
+-- n columns of sums that are all 0
+pub record Wiped (n : ℕ) (cs : List (List ℤ)) : Type 0 where
+  pub counted : length cs ≡ n
+  pub eights : Eights cs
+  pub bounded : EachBounded 0 cs
+  pub weighs : map weigh cs ≡ replicate n (pos 0)
+
+zero_eights : (n : ℕ) → Eights (replicate n (replicate 8 (pos 0)))
 zero_eights zero c h = absurd (omega arith)
 zero_eights (suc n) zero h = refl
 zero_eights (suc n) (suc c) h = zero_eights n c (le_of_suc-le-suc h)
 
-pub zero_bounded : (m n : ℕ) → EachBounded m (replicate n (replicate 8 (pos 0)))
-zero_bounded m zero c j = omega arith
-zero_bounded m (suc n) zero j = zeros_bounded m 8 j
-zero_bounded m (suc n) (suc c) j = zero_bounded m n c j
+zero_bounded : (n : ℕ) → EachBounded 0 (replicate n (replicate 8 (pos 0)))
+zero_bounded zero c j = omega arith
+zero_bounded (suc n) zero j = zeros_bounded 0 8 j
+zero_bounded (suc n) (suc c) j = zero_bounded n c j
 
 weigh_zeros : (n : ℕ) → map weigh (replicate n (replicate 8 (pos 0))) ≡ replicate n (pos 0)
 weigh_zeros zero = refl
 weigh_zeros (suc n) = ap (λ ts. pos 0 ∷ ts) (weigh_zeros n)
 
-pub plane_zeros : (n : ℕ) → n ≤ 16 → map weigh (take n (replicate 16 (replicate 8 (pos 0)))) ≡ replicate n (pos 0)
-plane_zeros n few = ap (map weigh) (take-replicate n 16 (replicate 8 (pos 0)) few) ∙ weigh_zeros n
+pub wiped : (n : ℕ) (cs : List (List ℤ)) → cs ≡ replicate n (replicate 8 (pos 0)) → Wiped n cs
+wiped n cs e = record {
+  counted = ap length e ∙ length-replicate n (replicate 8 (pos 0));
+  eights = subst Eights (sym e) (zero_eights n);
+  bounded = subst (EachBounded 0) (sym e) (zero_bounded n);
+  weighs = ap (map weigh) e ∙ weigh_zeros n;
+}
+
+-- what the vector has whose columns are all filled with 0 through its slice
+pub wiped_back : (cs lent after : List (List ℤ)) → lent ≡ cs → after ≡ replicate (length lent) (replicate 8 (pos 0)) → refill (length cs) cs after ≡ replicate (length cs) (replicate 8 (pos 0))
+wiped_back cs lent after e f =
+    let filled = f ∙ ap (λ ds. replicate (length ds) (replicate 8 (pos 0))) e in
+    written cs after (ap length filled ∙ length-replicate (length cs) (replicate 8 (pos 0))) ∙ filled

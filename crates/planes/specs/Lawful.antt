@@ -1,7 +1,7 @@
 -- The plane unit keeps the laws of a unit. Nothing here has to be believed: these are proofs, which the unit names.
-use Rattle.std.specs.Prelude.{◌≡◌, ℕ, zero, suc, ◌+◌, ◌*◌, ◌^◌, ◌≤◌, List, [], ◌∷◌, map, length, take, ℤ, ◌+ℤ◌, unsigned_abs}
-use Rattle.std.proofs.Common.{subst, ◌∙◌, arith, le_of_suc-le-suc}
-use Rattle.std.proofs.lemmas.List.{length-map, length-take-le}
+use Rattle.std.specs.Prelude.{◌≡◌, ℕ, zero, suc, ◌+◌, ◌*◌, ◌^◌, ◌≤◌, List, [], ◌∷◌, map, length, ℤ, ◌+ℤ◌, unsigned_abs}
+use Rattle.std.proofs.Common.{subst, arith}
+use Rattle.std.proofs.lemmas.List.{length-map}
 use Rattle.std.proofs.lemmas.Bool.{and_parts, leb-true}
 use Rattle.units.specs.Meaning.{Lawful, Bounded, reach}
 use Rattle.units.specs.Lawful.{true_from_T}
@@ -26,39 +26,23 @@ weigh_most n (s ∷ ss) b =
 pub weigh_bounded : (n : ℕ) (ss : List ℤ) → length ss ≡ 8 → Bounded n ss → unsigned_abs (weigh ss) ≤ 255 * n
 weigh_bounded n ss eight b = let top = subst (λ k. unsigned_abs (weigh ss) ≤ most k n) eight (weigh_most n ss b) in omega (arith, top)
 
-pub take_eights : (n : ℕ) (cs : List (List ℤ)) → Eights cs → Eights (take n cs)
-take_eights zero cs e c h = absurd (omega arith)
-take_eights (suc n) [] e c h = e c h
-take_eights (suc n) (d ∷ cs) e zero h = e 0 (omega arith)
-take_eights (suc n) (d ∷ cs) e (suc c) h = take_eights n cs (λ j k. e (suc j) (omega arith)) c (le_of_suc-le-suc h)
-
 pub weighs_bounded : (m : ℕ) (cs : List (List ℤ)) → Eights cs → EachBounded m cs → Bounded (255 * m) (map weigh cs)
 weighs_bounded m [] e b c = omega arith
 weighs_bounded m (d ∷ cs) e b zero = weigh_bounded m d (e 0 (omega arith)) (b 0)
 weighs_bounded m (d ∷ cs) e b (suc c) = weighs_bounded m cs (λ j k. e (suc j) (omega arith)) (λ j. b (suc j)) c
 
-take_each : (m n : ℕ) (cs : List (List ℤ)) → EachBounded m cs → EachBounded m (take n cs)
-take_each m zero cs b c j = omega arith
-take_each m (suc n) [] b c j = b c j
-take_each m (suc n) (d ∷ cs) b zero j = b 0 j
-take_each m (suc n) (d ∷ cs) b (suc c) j = take_each m n cs (λ k. b (suc k)) c j
-
-pub plane_bounded : (n rows : ℕ) (cs : List (List ℤ)) → Eights cs → EachBounded (rows * 2 ^ 36) cs → Bounded (reach rows) (map weigh (take n cs))
-plane_bounded n rows cs e b c = omega (arith, weighs_bounded (rows * 2 ^ 36) (take n cs) (take_eights n cs e) (take_each (rows * 2 ^ 36) n cs b) c)
-
--- the totals of the columns in use
-pub plane_columns : (n : ℕ) (cs : List (List ℤ)) → n ≤ length cs → length (map weigh (take n cs)) ≡ n
-plane_columns n cs h = length-map (take n cs) weigh ∙ length-take-le n cs h
+pub plane_bounded : (rows : ℕ) (cs : List (List ℤ)) → Eights cs → EachBounded (rows * 2 ^ 36) cs → Bounded (reach rows) (map weigh cs)
+plane_bounded rows cs e b c = omega (arith, weighs_bounded (rows * 2 ^ 36) cs e b c)
 
 pub plane_lawful : (u : Plane) → Lawful (plane u)
 plane_lawful u =
-    let counted = plane_columns u.columns.count u.sums (omega (arith, u.wide, u.columns.few)) in
+    let counted = length-map u.sums.items weigh in
     record {
-      some_column = omega (arith, counted, u.columns.some);
-      few_columns = omega (arith, counted, u.columns.few);
+      some_column = omega (arith, counted, u.some);
+      few_columns = omega (arith, counted, u.few);
       some_row = omega arith;
       few_rows = omega arith;
       within = u.short;
       taken = λ w t. leb-true (unsigned_abs w) 255 (and_parts _ _ (true_from_T _ t)).0;
-      bounded = plane_bounded u.columns.count u.rows u.sums u.eights u.bounded;
+      bounded = plane_bounded u.rows u.sums.items u.eights u.bounded;
     }

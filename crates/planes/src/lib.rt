@@ -8,6 +8,7 @@ ghost use Rattle.refusals.specs.Refusing.{Made, verdict, unless};
 ghost use Rattle.units.specs.Meaning.{Bounded, plus_each, add_check, after_add, cleared};
 ghost use Rattle.planes.specs.Columns.{Eights, EachBounded, SignsWeigh, code, signed, signs, weigh, spread};
 
+use arrayvec::ArrayVec;
 use columns::{Columns, MOST_COLUMNS};
 use refusals::Refusal;
 use units::{Number, Row, Unit};
@@ -17,14 +18,13 @@ const LIMIT: u32 = 64;
 
 #[derive(Drop)]
 pub struct Plane {
-    columns: Columns,
     rows: u32,
-    // The first `columns` of these are in use. A vector of fixed room would be filled by a loop when made and cleared.
-    sums: [[i64; 8]; MOST_COLUMNS],
-    ghost wide: { length sums ≡ 16 },
-    ghost eights: { Eights sums },
+    sums: ArrayVec<[i64; 8], MOST_COLUMNS>,
+    ghost some: { 1 ≤ length sums.items },
+    ghost few: { length sums.items ≤ 16 },
+    ghost eights: { Eights sums.items },
     ghost short: { rows ≤ 64 },
-    ghost bounded: { EachBounded (rows * 2 ^ 36) sums },
+    ghost bounded: { EachBounded (rows * 2 ^ 36) sums.items },
 }
 
 // The eight bits of an odd weight: a 1 for a power of two that it has with +, a 0 for one with -.
@@ -70,14 +70,14 @@ fn weighed(sums: [i64; 8]) -> i64
     total
 }
 
-// Adds a row to each column that has a weight.
-fn add_row(sums: &mut [[i64; 8]; MOST_COLUMNS], row: Row<'_>)
-    requires { EachBounded (64 * 2 ^ 36) sums.old }
+// Adds a row to each column.
+fn add_row(sums: &mut [[i64; 8]], row: Row<'_>)
+    requires one_each { length row.weights.now ≡ length sums.old }
+    requires bounded { EachBounded (64 * 2 ^ 36) sums.old }
     ensures { sums.new ≡ spread sums.old row.entry.number.value row.entry.weights.now }
 {
-    // By column: of `iter_mut` zipped with the weights a proof would know no element.
-    for (column, weight) in row.weights.iter().enumerate() {
-        sums[column] = with_row(sums[column], row.number, code_of(*weight));
+    for (column, eight) in sums.iter_mut().enumerate() {
+        *eight = with_row(*eight, row.number, code_of(row.weights[column]));
     }
 }
 
@@ -89,14 +89,14 @@ impl Plane {
         ensures weighs { SignsWeigh }
     {
         let columns = Columns::new(columns)?;
-        Ok(Plane {
-            columns,
-            rows: 0,
-            sums: [[0; 8]; MOST_COLUMNS],
-        })
+        let mut sums = ArrayVec::from([[0; 8]; MOST_COLUMNS]);
+        sums.truncate(columns.count());
+        Ok(Plane { rows: 0, sums })
     }
 }
 
+// Not one struct with the multiplier unit: a column's sums, the weights that are taken and how a row grows a sum all differ,
+// so that a trait over columns would have every line of both.
 impl Unit for Plane {
     ghost use Rattle.planes.specs.Plane.{plane};
     ghost use Rattle.planes.specs.Lawful.{plane_lawful};
@@ -106,7 +106,7 @@ impl Unit for Plane {
     ghost lawful = { plane_lawful };
 
     fn columns(&self) -> usize {
-        self.columns.count()
+        self.sums.len()
     }
 
     fn rows(&self) -> u32 {
@@ -122,18 +122,17 @@ impl Unit for Plane {
     }
 
     fn total(&self, column: usize) -> Result<i64, Refusal> {
-        if column < self.columns.count() {
-            Ok(weighed(self.sums[column]))
-        } else {
-            Err(Refusal::NoSuchColumn)
-        }
+        self.sums
+            .get(column)
+            .map(|sums| weighed(*sums))
+            .ok_or(Refusal::NoSuchColumn)
     }
 
     // Each of a column's eight sums grows by `a` or -`a`, as the weight's power has + or -.
     fn add(&mut self, a: i64, weights: &[i16]) -> Result<(), Refusal>
         ensures answers { result ≡ verdict (add_check (plane self.old) a weights.now) }
         ensures grows { plane self.new ≡ after_add (plane self.old) a weights.now }
-        ensures spreads { self.new.sums ≡ unless (add_check (plane self.old) a weights.now) self.old.sums (spread self.old.sums a weights.now) }
+        ensures spreads { self.new.sums.items ≡ unless (add_check (plane self.old) a weights.now) self.old.sums.items (spread self.old.sums.items a weights.now) }
     {
         let row = self.check(a, weights)?;
         self.rows += 1;
@@ -143,9 +142,9 @@ impl Unit for Plane {
 
     fn clear(&mut self)
         ensures clears { plane self.new ≡ cleared (plane self.old) }
-        ensures empties { self.new.sums ≡ replicate 16 (replicate 8 (pos 0)) }
+        ensures empties { self.new.sums.items ≡ replicate (length self.old.sums.items) (replicate 8 (pos 0)) }
     {
         self.rows = 0;
-        self.sums = [[0; 8]; MOST_COLUMNS];
+        self.sums.fill([0; 8]);
     }
 }

@@ -9,7 +9,7 @@ pub with_row-requires : goal.with_row-requires
 with_row-requires c =
     let i = c.loop-column.column in
     let so_far = ap (λ ds. get_or ds i []) c.loop-column.invariant ∙ spread_past c.args.sums.now _ c.args.row.weights.now i in
-    subst (Bounded _) (sym so_far) (c.requires i)
+    subst (Bounded _) (sym so_far) (c.requires.bounded i)
 
 pub loop-column-init : goal.loop-column-init
 loop-column-init c = sym (spread_none c.args.sums.now _)
@@ -27,4 +27,4 @@ loop-column-preserved c =
     let column = c.with_row.ensures ∙ ap (λ d. plus_each d (signs 8 a c.code_of.result)) so_far ∙ ap (λ n. plus_each (get_or cs i []) (signs 8 a n)) coded in
     ap (λ ds. set ds i c.with_row.result) c.loop-column.invariant
     ∙ ap (set (spread cs a (take i ws)) i) column
-    ∙ sym (spread_more cs a ws i (omega (arith, c.args.row.few, c.told-sums, c.loop-column-test.true)) c.loop-column-test.true)
+    ∙ sym (spread_more cs a ws i c.loop-column-test.true (omega (arith, c.requires.one_each, c.loop-column-test.true)))
