@@ -1,7 +1,15 @@
 -- The plane unit: sums for the powers of two, and what adding a or -a to them does to what they weigh.
-use Rattle.std.specs.Prelude.{◌≡◌, ℕ, zero, suc, ◌+◌, ◌-◌, ◌*◌, ◌/◌, ◌%◌, ◌^◌, ◌<◌, ◌≤◌, Bool, true, false, cond, List, [], ◌∷◌, map, length, reverse, get_or, take, drop, set, replicate, ℤ, pos, ◌+ℤ◌, ◌*ℤ◌, neg_ℤ, ◌==◌, ◌≢◌, slice_index_or, slice_set, unsigned_abs, refl}
+use Rattle.std.specs.Prelude.{◌≡◌, ℕ, zero, suc, ◌+◌, ◌-◌, ◌*◌, ◌/◌, ◌%◌, ◌^◌, ◌<◌, ◌≤◌, Bool, true, false, cond, List, [], ◌∷◌, map, length, get_or, take, drop, set, replicate, ℤ, pos, ◌+ℤ◌, ◌*ℤ◌, neg_ℤ, ◌==◌, ◌≢◌, slice_index_or, slice_set, unsigned_abs, Option, Some, refl}
 use Rattle.std.proofs.Common.{sym, ap, subst, ◌∙◌, arith, le_of_suc-le-suc, pow-suc, div-one, add-one}
 use Rattle.std.specs.List.{refill}
+use Rattle.std.specs.Borrow.{Bor}
+use Rattle.std.specs.Iterator.{Yields}
+use Rattle.std.specs.Iterator.Adapters.{rev_steps, rev_source}
+use Rattle.std.specs.Slice.Iter.{iter_rest, iter_steps_back}
+use Rattle.std.specs.declared.iter.Rev.{Rev}
+use Rattle.std.specs.declared.slice.Iter.{Iter}
+use Rattle.std.proofs.lemmas.Iterator.Adapters.{YieldsList-from_rev_slice}
+use Rattle.std.proofs.lemmas.Iterator.Consumers.{YieldsList-turn}
 use Rattle.std.proofs.lemmas.Int.{ints}
 use Rattle.std.proofs.lemmas.Nat.{shr-shr}
 use Rattle.std.proofs.lemmas.List.{at_drop_more, length-reverse, get_or-reverse, get_or_default, length-replicate}
@@ -128,23 +136,25 @@ weigh_down ss p low high =
     let next : p - 1 + 1 ≡ p = omega arith in
     at_drop_more weigh ss (p - 1) (pos 0) (omega arith) ∙ ap (λ i. slice_index_or ss (p - 1) (pos 0) +ℤ (weigh (drop i ss) +ℤ weigh (drop i ss))) next
 
--- a loop's step from the last sum back: k of the eight are weighed, and x is the next
-pub record Weighed (ss : List ℤ) (k : ℕ) (x : ℤ) : Type 0 where
-  pub so_far : unsigned_abs (weigh (drop (8 - k) ss)) ≤ 255 * (64 * 2 ^ 36)
+-- a loop's turn from the last sum back: k of the eight weigh the total, and x is the next
+pub record Turned (ss : List ℤ) (k : ℕ) (total x : ℤ) : Type 0 where
+  pub so_far : unsigned_abs total ≤ 255 * (64 * 2 ^ 36)
   pub more : unsigned_abs x ≤ 64 * 2 ^ 36
-  pub step : weigh (drop (8 - (k + 1)) ss) ≡ x +ℤ (weigh (drop (8 - k) ss) +ℤ weigh (drop (8 - k) ss))
+  pub step : weigh (drop (8 - (k + 1)) ss) ≡ x +ℤ (total +ℤ total)
 
-pub weighed_more : (ss : List ℤ) (k : ℕ) (x : ℤ) → length ss ≡ 8 → Bounded (64 * 2 ^ 36) ss → k < length (reverse ss) → x ≡ get_or (reverse ss) k x → Weighed ss k x
-weighed_more ss k x eight bounded here read =
-    let inside : k < length ss = omega (arith, length-reverse ss) in
+pub turned : (s : Rev (Iter ℤ)) (ss : List ℤ) → length ss ≡ 8 → Bounded (64 * 2 ^ 36) ss → iter_rest (rev_source s) ≡ ss → (xs : List (Bor ℤ)) (t : Rev (Iter ℤ)) → Yields (rev_steps iter_steps_back) s xs t → (r : Option (Bor ℤ)) (u : Rev (Iter ℤ)) (x : Bor ℤ) → r ≡ Some x → rev_steps iter_steps_back t r u → (total : ℤ) → total ≡ weigh (drop (8 - length xs) ss) → Turned ss (length xs) total x.now
+turned s ss eight bounded all xs t so_far r u x is step total e =
+    let k = length xs in
+    let turn = YieldsList-turn (YieldsList-from_rev_slice ss all) xs t so_far r u x is step in
+    let inside : k < length ss = omega (arith, length-reverse ss, turn.0) in
     let place : length ss - 1 - k ≡ 8 - k - 1 = omega arith in
     let next : 8 - (k + 1) ≡ 8 - k - 1 = omega arith in
-    let item : x ≡ slice_index_or ss (8 - k - 1) (pos 0) =
-    read ∙ get_or-reverse ss k x inside ∙ get_or_default ss (length ss - 1 - k) x (pos 0) (omega arith) ∙ ap (λ i. get_or ss i (pos 0)) place in
+    let item : x.now ≡ slice_index_or ss (8 - k - 1) (pos 0) =
+    turn.1 ∙ get_or-reverse ss k x.now inside ∙ get_or_default ss (length ss - 1 - k) x.now (pos 0) (omega arith) ∙ ap (λ i. get_or ss i (pos 0)) place in
     record {
-      so_far = drop_bounded _ (8 - k) ss eight bounded;
+      so_far = rw e (drop_bounded _ (8 - k) ss eight bounded);
       more = rw item (bounded (8 - k - 1));
-      step = ap (λ i. weigh (drop i ss)) next ∙ weigh_down ss (8 - k) (omega arith) (omega arith) ∙ ap (λ z. z +ℤ (weigh (drop (8 - k) ss) +ℤ weigh (drop (8 - k) ss))) (sym item);
+      step = ap (λ i. weigh (drop i ss)) next ∙ weigh_down ss (8 - k) (omega arith) (omega arith) ∙ cc (item, e);
     }
 
 pub get_or_signs : (k : ℕ) (a : ℤ) (n j : ℕ) → j < k → slice_index_or (signs k a n) j (pos 0) ≡ signed a (n / 2 ^ j)
@@ -190,7 +200,7 @@ spread_suc (c ∷ cs) a (w ∷ ws) (suc i) h k = ap (λ ds. plus_each c (signs 8
 pub spread_more : (cs : List (List ℤ)) (a : ℤ) (ws : List ℤ) (i : ℕ) → i < length cs → i < length ws → spread cs a (take (i + 1) ws) ≡ slice_set (spread cs a (take i ws)) i (plus_each (slice_index_or cs i []) (signs 8 a (code (slice_index_or ws i (pos 0)))))
 spread_more cs a ws i h k = rw add-one (spread_suc cs a ws i h k)
 
--- ---- a new unit
+-- ---- a new unit, and one that is cleared
 -- n columns of sums that are all 0
 pub record Wiped (n : ℕ) (cs : List (List ℤ)) : Type 0 where
   pub counted : length cs ≡ n
