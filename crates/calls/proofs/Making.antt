@@ -1,5 +1,5 @@
 -- A call is made as the log says.
-use Rattle.std.proofs.Common.{◌≡◌, ℕ, Bool, true, false, List, Some, None, Ok, Err, Option, Result, sym, refl, ap, ◌∙◌, subst, arith, Bor}
+use Rattle.std.proofs.Common.{◌≡◌, Some, None, Ok, Err, Option, Result, sym, ap, ◌∙◌, subst}
 use Rattle.std.specs.Result.{MatchResult}
 use Rattle.refusals.specs.declared.Refusal.{Refusal}
 use Rattle.refusals.specs.Refusing.{answer, verdict}
@@ -9,10 +9,9 @@ use Rattle.units.specs.Meaning.{Meaning}
 use Rattle.runs.specs.State.{State}
 use Rattle.runs.specs.Log.{Log, Event, Holds, Logged, refusal, after}
 use Rattle.calls.specs.declared.Call.{Call}
-use Rattle.calls.specs.declared.Call.TheVariants.{Survey, Fix, Feed, Read, Clear}
 use Rattle.calls.specs.declared.Run.{Run}
-use Rattle.calls.specs.Lists.{Answer, allowed, aligned_after}
-use Rattle.calls.specs.Work.{event_of, state_of, format_of, is_aligned, Follows}
+use Rattle.calls.specs.Lists.{Answer}
+use Rattle.calls.specs.Work.{event_of, state_of, format_of, Follows}
 
 -- a call that has nothing to answer but what its checks gave
 pub mapped : (o : Option Refusal) (r : Result (Unit {0}) Refusal) (a : Answer) (P : Unit {0} → Type 0) → r ≡ verdict o → (P tt → a ≡ Ok None) → MatchResult r P (λ e. a ≡ Err e) → a ≡ answer o None

@@ -5,11 +5,10 @@ use Rattle.std.proofs.lemmas.List.{length-map, length-take-le}
 use Rattle.std.proofs.lemmas.Bool.{cond_both, eqb-false}
 use Rattle.std.proofs.lemmas.Int.{ints}
 use Rattle.units.specs.Meaning.{Meaning, Lawful, Bounded, columns_of, reach, plus_each, add_check, added, after_add, cleared, total_at}
-use Rattle.units.specs.Lawful.{take_bounded}
 use Rattle.units.proofs.Checks.{Accepted, when_accepted, added_lawful, cleared_lawful, total_read, total_there, total_bounded, unless_both, unless_map}
-use Rattle.units.proofs.Reach.{length_plus, get_or_plus, plus_bounded, plus_more, get_or_plus_past, zeros_bounded}
+use Rattle.units.proofs.Reach.{length_plus, get_or_plus, plus_bounded, plus_more, get_or_plus_past, take_bounded, zeros_bounded}
 use Rattle.layers.specs.Layer.{held, shown, unit_after}
-use Rattle.layers.specs.Drain.{DrainState, drain_on, drain_made, drain_states, drain, fresh_drain, moved_up, room_made, handed_down, drain_add, drain_clear, drain_after, DrainUnclamped, DrainSingle}
+use Rattle.layers.specs.Drain.{DrainState, drain_made, drain_states, drain, fresh_drain, moved_up, room_made, handed_down, drain_add, drain_clear, drain_after, DrainUnclamped, DrainSingle}
 use Rattle.layers.proofs.Events.{after_keeps, as_single}
 use Rattle.layers.proofs.Shown.{map_held, shown_same}
 

@@ -98,3 +98,10 @@ written xs ws same = take_at ws _ (length xs) same
 
 pub grown_back : (ts after : List ℤ) (a : ℤ) (ws : List ℤ) → after ≡ grown ts a ws → refill (length ts) ts after ≡ grown ts a ws
 grown_back ts after a ws e = written ts after (ap length e ∙ length_plus ts _) ∙ e
+
+-- a front of a list reaches no further than the whole
+pub take_bounded : (n k : ℕ) (xs : List ℤ) → Bounded n xs → Bounded n (take k xs)
+take_bounded n zero xs b c = omega arith
+take_bounded n (suc k) [] b c = b c
+take_bounded n (suc k) (x ∷ xs) b zero = b zero
+take_bounded n (suc k) (x ∷ xs) b (suc c) = take_bounded n k xs (λ d. b (suc d)) c

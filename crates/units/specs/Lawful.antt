@@ -1,22 +1,15 @@
 -- The multiplier unit keeps the laws of a unit. Nothing here has to be believed: these are proofs, which the unit names.
-use Rattle.std.specs.Prelude.{◌≡◌, ℕ, zero, suc, Bool, true, false, T, List, [], ◌∷◌, take, ℤ, refl}
+use Rattle.std.specs.Prelude.{◌≡◌, Bool, true, false, T, refl}
 use Rattle.std.proofs.Common.{arith}
 use Rattle.std.proofs.lemmas.Bool.{leb-true}
 use Rattle.units.specs.declared.multiply.Multiplier.{Multiplier}
-use Rattle.units.specs.Meaning.{Lawful, Bounded}
+use Rattle.units.specs.Meaning.{Lawful}
 use Rattle.units.specs.Multiplier.{multiplier}
 
 -- a test that is true, as a fact and as an equation
 pub true_from_T : (b : Bool) → T b → b ≡ true
 true_from_T true t = refl
 true_from_T false t = absurd t
-
--- a front of a list reaches no further than the whole
-pub take_bounded : (n k : ℕ) (xs : List ℤ) → Bounded n xs → Bounded n (take k xs)
-take_bounded n zero xs b c = omega arith
-take_bounded n (suc k) [] b c = b c
-take_bounded n (suc k) (x ∷ xs) b zero = b zero
-take_bounded n (suc k) (x ∷ xs) b (suc c) = take_bounded n k xs (λ d. b (suc d)) c
 
 pub multiplier_lawful : (u : Multiplier) → Lawful (multiplier u)
 multiplier_lawful u =
