@@ -1,11 +1,10 @@
-// The job program: reads a job from standard input, and prints its listing, or by which number it is refused.
+// The job program: reads a job from standard input, and prints the header of its listing, or by which number it is refused.
 #![tactic(auto)]
 
 ghost use Rattle.std.specs.Prelude.{IfOk, string_bytes};
 ghost use Rattle.alignsum.specs.Printed.{Printed};
 
-use jobs::{JobError, header};
-use listing::Refused;
+use jobs::{header, text_of};
 use std::alloc::{AllocError, Global};
 use std::io;
 use std::io::Read;
@@ -17,13 +16,10 @@ const MOST_READ: u64 = 65_537;
 fn answer(heap: Global, file: &[u8]) -> Result<String, AllocError>
     ensures { IfOk result (λ s. Printed file.now (string_bytes s)) }
 {
-    match header(heap, file) {
-        Ok(header) => header.to_string(heap),
-        Err(JobError::Refused(refusal)) => Refused(refusal).to_string(heap),
-        Err(JobError::Memory(error)) => Err(error),
-    }
+    text_of(heap, header(heap, file))
 }
 
+// Two programs share this shape of `main`; each reads and prints for itself.
 fn main(rt: HostRuntime) -> io::Result<()> {
     let mut file = Vec::new(rt.alloc());
     let _ = rt.stdin().take(MOST_READ).read_to_end(&mut file)?;

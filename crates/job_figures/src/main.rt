@@ -5,6 +5,7 @@ use job_runs::job_text;
 use std::io;
 use std::io::Read;
 
+// Two programs share this shape of `main`; each reads and prints for itself.
 fn main(rt: HostRuntime) -> io::Result<()> {
     let mut file = Vec::new(rt.alloc());
     let _ = rt.stdin().read_to_end(&mut file)?;

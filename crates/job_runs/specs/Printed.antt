@@ -1,12 +1,10 @@
 -- What is printed of a file.
-use Rattle.std.specs.Prelude.{◌≡◌, ℕ, List, map, Some, None, Option}
+use Rattle.std.specs.Prelude.{ℕ, List, map}
 use Rattle.std.specs.List.{range_with_len}
-use Rattle.refusals.specs.declared.Refusal.{Refusal}
-use Rattle.listing.specs.Lines.{listing_text, refused_text}
+use Rattle.listing.specs.Lines.{listing_text}
 use Rattle.jobs.specs.declared.plan.Plan.{Plan}
-use Rattle.jobs.specs.Plan.{plan_of}
 use Rattle.jobs.specs.Survey.{file_tile}
-use Rattle.jobs.specs.Trailer.{trailer_of}
+use Rattle.jobs.specs.Text.{PrintedBy}
 use Rattle.job_runs.specs.Parts.{file_sheets}
 use Rattle.job_runs.specs.Listing.{listing_check, job_header, job_line}
 
@@ -14,11 +12,6 @@ use Rattle.job_runs.specs.Listing.{listing_check, job_header, job_line}
 abbrev pub job_listing : Plan → List ℕ → List ℕ
 job_listing p file = listing_text (job_header p (file_tile file p)) (map (job_line p (file_tile file p) (file_sheets file p)) (range_with_len 0 p.columns))
 
--- by what the checks gave: the listing of the plan that the trailer asks for, or the number of the refusal
-abbrev pub PrintedBy : Option Refusal → List ℕ → List ℕ → Type 0
-PrintedBy None file text = (p : Plan) → plan_of (trailer_of file) ≡ Some p → text ≡ job_listing p file
-PrintedBy (Some e) file text = text ≡ refused_text e
-
--- the text that a file is answered with
+-- the text that a file is answered with: the listing of its job, or the number of the refusal
 abbrev pub Printed : List ℕ → List ℕ → Type 0
-Printed file text = PrintedBy (listing_check file) file text
+Printed file text = PrintedBy (λ p. job_listing p file) (listing_check file) file text

@@ -6,3 +6,4 @@ pub mod Trailer
 pub mod Plan
 pub mod Job
 pub mod Survey
+pub mod Text

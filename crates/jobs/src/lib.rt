@@ -8,6 +8,7 @@ mod job;
 mod plan;
 mod reader;
 mod survey;
+mod text;
 mod trailer;
 mod words;
 
@@ -17,3 +18,4 @@ pub use error::JobError;
 pub use job::{Job, Section};
 pub use plan::Plan;
 pub use survey::header;
+pub use text::text_of;
