@@ -13,11 +13,12 @@ use Rattle.runs.specs.State.{Row, figures}
 use Rattle.runs.specs.Log.{Log, fix, read, after, empty, raised, settled, with_rows, refusal, reading_of}
 use Rattle.calls.specs.Lists.{Answer, answers_to, log_after}
 use Rattle.jobs.specs.declared.plan.Plan.{Plan}
+use Rattle.jobs.specs.Survey.{shared_of}
 use Rattle.job_runs.specs.Parts.{job_setting, tile_count}
 use Rattle.job_runs.specs.Terms.{job_terms}
 use Rattle.job_runs.specs.Events.{survey_of, feed_of, surveys, feeds, reads, job_events, job_answers}
 use Rattle.job_runs.specs.Readings.{first_refusal, readings, line_of, lines_from}
-use Rattle.job_runs.specs.Listing.{shared_of, job_step, job_line, Told}
+use Rattle.job_runs.specs.Listing.{job_step, job_line, Told}
 use Rattle.calls.proofs.Lists.{answers_append, log_append}
 use Rattle.job_runs.proofs.Counted.{map_same}
 use Rattle.job_runs.proofs.Answering.{none_append}

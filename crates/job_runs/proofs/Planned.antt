@@ -4,11 +4,13 @@ use Rattle.std.specs.List.{AllByRecursion}
 use Rattle.std.proofs.lemmas.List.{length-map}
 use Rattle.std.proofs.lemmas.Bool.{ltb-false}
 use Rattle.std.proofs.lemmas.Bool.Decides.{nat_tests}
+use Rattle.std.specs.Option.{option_and_then}
+use Rattle.std.proofs.lemmas.Option.{option_and_then_some}
 use Rattle.refusals.specs.declared.Refusal.{Refusal}
 use Rattle.refusals.specs.declared.Refusal.TheVariants.{UnknownCode}
 use Rattle.columns.specs.Columns.{columns_check}
 use Rattle.refusals.specs.Refusing.{first, Made}
-use Rattle.refusals.proofs.Refusing.{passed, both_passed, first_refuses, first_passes, was_made, was_refused, unmade}
+use Rattle.refusals.proofs.Refusing.{passed, both_passed, first_passes, was_made}
 use Rattle.alignment.specs.Tile.{Tile, tile_of, extra_check}
 use Rattle.sheets.specs.Code.{coded, sheet_codes, sheet_number}
 use Rattle.sheets.specs.Making.{planes_check}
@@ -23,11 +25,11 @@ use Rattle.jobs.specs.declared.error.JobError.{JobError}
 use Rattle.jobs.specs.declared.error.JobError.TheVariants.{Refused, Memory}
 use Rattle.jobs.specs.Error.{MadeInMemory}
 use Rattle.jobs.specs.Job.{job_check, JobOf, trailer_check}
-use Rattle.jobs.specs.Plan.{with_some, plan_of, plan_check, unknown, activation_bytes}
+use Rattle.jobs.specs.Plan.{plan_of, plan_check, unknown, activation_bytes}
 use Rattle.jobs.specs.Survey.{coding_of, activations_tile, file_tile}
 use Rattle.jobs.specs.Trailer.{trailer_of}
 use Rattle.jobs.specs.Words.{little, words_in}
-use Rattle.jobs.proofs.Heading.{one_each}
+use Rattle.jobs.proofs.Heading.{one_each, one_plan}
 use Rattle.job_runs.specs.declared.material.Material.{Material}
 use Rattle.job_runs.specs.Parts.{Fair, file_sheets}
 use Rattle.job_runs.specs.Events.{job_answers}
@@ -58,10 +60,6 @@ same_listed job code m r long format plan words weights listed =
     (subst (λ (q : Plan). ListedAs q (tile_of (coding_of code) m.words.now) m.weights.now r) plan listed))
 
 -- ---- the plan
-with_some_parts : {A B : Type 0} (o : Option A) (f : A → Option B) (y : B) → with_some o f ≡ Some y → (x : A) × (o ≡ Some x) × (f x ≡ Some y)
-with_some_parts None f y e = let z : ◌≡◌ {A = ℕ} 0 1 = cc in absurd (omega arith)
-with_some_parts (Some x) f y e = (x, refl, e)
-
 coded_in : {C : Type 0} (P : C → Type 0) (number : C → ℕ) (codes : List C) (n : ℕ) (c : C) → AllByRecursion P codes → coded number codes n ≡ Some c → P c
 coded_in P number [] n c all e = let z : ◌≡◌ {A = ℕ} 0 1 = cc in absurd (omega arith)
 coded_in {C} P number (d ∷ codes) n c all e = by (eqb n (number d)) e (coded_in P number codes n c all.1)
@@ -79,17 +77,17 @@ record OfTrailer (t : Trailer) (p : Plan) : Type 0 where
 
 of_trailer : (t : Trailer) (p : Plan) → plan_of t ≡ Some p → OfTrailer t p
 of_trailer t p e =
-    let format = with_some_parts (coded format_number format_codes t.format) _ p e in
-    let sheet = with_some_parts (coded sheet_number sheet_codes t.sheet) _ p format.2 in
-    let unit = with_some_parts (coded unit_number unit_codes t.unit) _ p sheet.2 in
-    let made : record { rows = t.rows; columns = t.columns; format = format.0; sheet = sheet.0; extra = t.extra; unit = unit.0 } ≡ p = some_same _ p unit.2 in
+    option_and_then_some _ (coded format_number format_codes t.format) p e (λ format is_format with_format.
+    option_and_then_some _ (coded sheet_number sheet_codes t.sheet) p with_format (λ sheet is_sheet with_sheet.
+    option_and_then_some _ (coded unit_number unit_codes t.unit) p with_sheet (λ unit is_unit with_unit.
+    let made : record { rows = t.rows; columns = t.columns; format = format; sheet = sheet; extra = t.extra; unit = unit } ≡ p = some_same _ p with_unit in
     record {
       rows = sym (ap (λ (q : Plan). q.rows) made);
       columns = sym (ap (λ (q : Plan). q.columns) made);
       extra = sym (ap (λ (q : Plan). q.extra) made);
       planes = sym (ap (λ (q : Plan). planes_check q.sheet) made)
-          ∙ coded_in (λ c. planes_check c ≡ None) sheet_number sheet_codes t.sheet sheet.0 (refl, (refl, (refl, (refl, (refl, (refl, (refl, (refl, (refl, (refl, tt)))))))))) sheet.1;
-    }
+          ∙ coded_in (λ c. planes_check c ≡ None) sheet_number sheet_codes t.sheet sheet (refl, (refl, (refl, (refl, (refl, (refl, (refl, (refl, (refl, (refl, tt)))))))))) is_sheet;
+    })))
   where
     some_same : (x y : Plan) → Some x ≡ Some y → x ≡ y
     some_same x y same = cc
@@ -137,7 +135,7 @@ module _ (file : List ℕ) (job : Job) (read : Made (job_check file) (JobOf file
   pub read_listed : (r : Result Listing JobError) → ListedAs job.plan (activations_tile job.plan job.activations.bytes.now) job.weights.bytes.now r → MadeInMemory (listing_check file) (ListingOf file) r
   read_listed r m =
       made_as (listing_check file) (Lists job.plan (file_tile file job.plan) (file_sheets file job.plan)) (ListingOf file)
-      (λ listing lists q is. subst (λ (x : Plan). Lists x (file_tile file x) (file_sheets file x) listing) (one_plan q is) lists)
+      (λ listing lists q is. subst (λ (x : Plan). Lists x (file_tile file x) (file_sheets file x) listing) (one_plan (trailer_of file) job.plan q holds.plan is) lists)
       r (subst (λ o. MadeInMemory o (Lists job.plan (file_tile file job.plan) (file_sheets file job.plan)) r) (sym checked) in_file)
     where
       long : length (file_tile file job.plan) ≡ job.plan.rows
@@ -145,17 +143,10 @@ module _ (file : List ℕ) (job : Job) (read : Made (job_check file) (JobOf file
 
       checked : listing_check file ≡ first_refusal (job_answers job.plan (file_tile file job.plan) (file_sheets file job.plan))
       checked =
-          first_passes _ accepted ∙ ap (λ o. with_some o (λ q. run_check q (file_tile file q) (file_sheets file q))) holds.plan
+          first_passes _ accepted ∙ ap (option_and_then (λ q. run_check q (file_tile file q) (file_sheets file q))) holds.plan
           ∙ sym (refused_as job.plan (file_tile file job.plan) (file_sheets file job.plan) long rows_few)
 
       in_file : ListedAs job.plan (file_tile file job.plan) (file_sheets file job.plan) r
       in_file =
           subst (λ (sheets : List ℕ). ListedAs job.plan (file_tile file job.plan) sheets r) holds.weights.holds
           (subst (λ (bytes : List ℕ). ListedAs job.plan (activations_tile job.plan bytes) job.weights.bytes.now r) holds.activations.holds m)
-
-      one_plan : (q : Plan) → plan_of (trailer_of file) ≡ Some q → job.plan ≡ q
-      one_plan q is = let same : Some job.plan ≡ Some q = sym holds.plan ∙ is in cc
-
--- a file that holds no job
-pub no_job : (file : List ℕ) (e : Refusal) → Made (job_check file) (JobOf file) (Err e) → Made (listing_check file) (ListingOf file) (Err e)
-no_job file e why = unmade (listing_check file) _ e (first_refuses _ (was_refused (job_check file) _ e why))

@@ -1,19 +1,19 @@
 -- What a file is listed as: why it is refused, or its header and a line for each column.
 use Rattle.std.specs.Prelude.{◌≡◌, ℕ, List, map, ℤ, pos, ◌-ℤ◌, Some, vec_items, Option, Result}
 use Rattle.std.specs.List.{range_with_len, AllByRecursion}
+use Rattle.std.specs.Option.{option_and_then}
 use Rattle.refusals.specs.declared.Refusal.{Refusal}
 use Rattle.refusals.specs.Refusing.{first}
 use Rattle.sums.specs.Terms.{step_of, total, slack, exact}
 use Rattle.sums.specs.Laws.{Tells}
-use Rattle.alignment.specs.Tile.{Tile, largest}
+use Rattle.alignment.specs.Tile.{Tile}
 use Rattle.rounding.specs.Word.{nearest_word}
-use Rattle.listing.specs.declared.Header.{Header}
 use Rattle.jobs.specs.declared.plan.Plan.{Plan}
 use Rattle.jobs.specs.declared.error.JobError.{JobError}
 use Rattle.jobs.specs.Error.{MadeInMemory}
 use Rattle.jobs.specs.Job.{job_check}
-use Rattle.jobs.specs.Plan.{with_some, plan_of}
-use Rattle.jobs.specs.Survey.{coding_of, file_tile}
+use Rattle.jobs.specs.Plan.{plan_of}
+use Rattle.jobs.specs.Survey.{file_tile, shared_of, job_header}
 use Rattle.jobs.specs.Trailer.{trailer_of}
 use Rattle.listing.specs.declared.Line.{Line}
 use Rattle.listing.specs.declared.Listing.{Listing}
@@ -25,19 +25,11 @@ use Rattle.job_runs.specs.Refused.{run_check}
 
 -- the checks of reading the file, and then of its words and weights
 abbrev pub listing_check : List ℕ → Option Refusal
-listing_check file = first (job_check file) (with_some (plan_of (trailer_of file)) (λ p. run_check p (file_tile file p) (file_sheets file p)))
-
--- the exponent that the words share: the larger of the format's least and every word's
-abbrev pub shared_of : Plan → Tile → ℤ
-shared_of p words = largest (coding_of p.format).least words
+listing_check file = first (job_check file) (option_and_then (λ p. run_check p (file_tile file p) (file_sheets file p)) (plan_of (trailer_of file)))
 
 -- the step in grains
 abbrev pub job_step : Plan → Tile → ℕ
 job_step p words = step_of (shared_of p words) p.extra
-
--- rows and extra bits of the plan, and the shared exponent
-abbrev pub job_header : Plan → Tile → Header
-job_header p words = record { rows = p.rows; shared = shared_of p words; extra = p.extra }
 
 -- the line of a column: total and slack of its terms, and total × step as a word
 abbrev pub job_line : Plan → Tile → List ℕ → ℕ → Line

@@ -3,10 +3,10 @@ use Rattle.std.specs.Prelude.{ℕ, List, map}
 use Rattle.std.specs.List.{range_with_len}
 use Rattle.listing.specs.Lines.{listing_text}
 use Rattle.jobs.specs.declared.plan.Plan.{Plan}
-use Rattle.jobs.specs.Survey.{file_tile}
+use Rattle.jobs.specs.Survey.{file_tile, job_header}
 use Rattle.jobs.specs.Text.{PrintedBy}
 use Rattle.job_runs.specs.Parts.{file_sheets}
-use Rattle.job_runs.specs.Listing.{listing_check, job_header, job_line}
+use Rattle.job_runs.specs.Listing.{listing_check, job_line}
 
 -- the listing of a job: its header, and a line for each column
 abbrev pub job_listing : Plan → List ℕ → List ℕ

@@ -1,5 +1,6 @@
 -- A file is read step by step: the trailer, its plan, and the two sections. The first step that is refused refuses the job.
 use Rattle.std.proofs.Common.{◌≡◌, ℕ, List, length, Some, None, Ok, Err, Result, sym, ap, ◌∙◌, subst}
+use Rattle.std.specs.Option.{option_and_then}
 use Rattle.refusals.specs.declared.Refusal.{Refusal}
 use Rattle.refusals.specs.Refusing.{Made}
 use Rattle.refusals.proofs.Refusing.{first_refuses, first_passes, made, unmade, was_made, was_refused}
@@ -8,7 +9,7 @@ use Rattle.jobs.specs.declared.job.Section.{Section}
 use Rattle.jobs.specs.declared.plan.Plan.{Plan}
 use Rattle.jobs.specs.declared.trailer.Trailer.{Trailer}
 use Rattle.jobs.specs.Job.{section_check, sections_check, trailer_check, job_check, SectionOf, JobOf}
-use Rattle.jobs.specs.Plan.{with_some, plan_of, plan_check, activation_bytes, weight_bytes}
+use Rattle.jobs.specs.Plan.{plan_of, plan_check, activation_bytes, weight_bytes}
 use Rattle.jobs.specs.Trailer.{file_check, trailer_of}
 
 -- what cutting a section of n bytes out of the file answers
@@ -34,7 +35,7 @@ module _ (file : List ℕ) (t : Trailer) (read : Made (file_check (length file))
     plan = (was_made (plan_check t) _ p known).1
 
     behind_plan : job_check file ≡ sections_check file t p
-    behind_plan = behind_file ∙ first_passes _ (was_made (plan_check t) (λ q. plan_of t ≡ Some q) p known).0 ∙ ap (λ o. with_some o (sections_check file t)) plan
+    behind_plan = behind_file ∙ first_passes _ (was_made (plan_check t) (λ q. plan_of t ≡ Some q) p known).0 ∙ ap (option_and_then (sections_check file t)) plan
 
     -- the size as it was computed
     first_cut : (r : Result Section Refusal) → Cut file t.activations n r → Cut file t.activations (activation_bytes p) r

@@ -1,5 +1,6 @@
 -- Why a file is not a job, and what the job is otherwise.
 use Rattle.std.specs.Prelude.{◌≡◌, ℕ, ◌+◌, ◌-◌, List, length, take, drop, Some, Option, nat_lt}
+use Rattle.std.specs.Option.{option_and_then}
 use Rattle.refusals.specs.declared.Refusal.{Refusal}
 use Rattle.refusals.specs.declared.Refusal.TheVariants.{SectionOutside}
 use Rattle.refusals.specs.Refusing.{refuse, first}
@@ -7,7 +8,7 @@ use Rattle.jobs.specs.declared.job.Job.{Job}
 use Rattle.jobs.specs.declared.job.Section.{Section}
 use Rattle.jobs.specs.declared.plan.Plan.{Plan}
 use Rattle.jobs.specs.declared.trailer.Trailer.{Trailer}
-use Rattle.jobs.specs.Plan.{with_some, plan_of, plan_check, activation_bytes, weight_bytes}
+use Rattle.jobs.specs.Plan.{plan_of, plan_check, activation_bytes, weight_bytes}
 use Rattle.jobs.specs.Trailer.{trailer_of, file_check}
 
 -- a section ends before the trailer
@@ -20,7 +21,7 @@ sections_check file t p = first (section_check file t.activations (activation_by
 
 -- the checks of a trailer and of the sections that it points to
 abbrev pub trailer_check : List ℕ → Trailer → Option Refusal
-trailer_check file t = first (plan_check t) (with_some (plan_of t) (sections_check file t))
+trailer_check file t = first (plan_check t) (option_and_then (sections_check file t) (plan_of t))
 
 -- all that reading a job checks
 abbrev pub job_check : List ℕ → Option Refusal

@@ -1,5 +1,6 @@
 -- What a trailer asks for, and why it may be refused.
-use Rattle.std.specs.Prelude.{ℕ, ◌+◌, ◌*◌, ◌/◌, ◌%◌, Bool, not, ◌||◌, is_some, Some, None, Option, ◌==◌, nat_lt}
+use Rattle.std.specs.Prelude.{ℕ, ◌+◌, ◌*◌, ◌/◌, ◌%◌, Bool, not, ◌||◌, is_some, Some, Option, ◌==◌, nat_lt}
+use Rattle.std.specs.Option.{option_and_then}
 use Rattle.refusals.specs.declared.Refusal.{Refusal}
 use Rattle.refusals.specs.declared.Refusal.TheVariants.{UnknownCode}
 use Rattle.columns.specs.Columns.{columns_check}
@@ -10,16 +11,12 @@ use Rattle.jobs.specs.declared.plan.Plan.{Plan}
 use Rattle.jobs.specs.declared.trailer.Trailer.{Trailer}
 use Rattle.jobs.specs.Codes.{format_codes, format_number, unit_codes, unit_number, word_bytes}
 
--- what f makes of a value, where there is one
-abbrev pub with_some : {A B : Type 0} → Option A → (A → Option B) → Option B
-with_some None f = None
-with_some (Some x) f = f x
-
 -- the plan of a trailer, if each of its codes is known
 abbrev pub plan_of : Trailer → Option Plan
 plan_of t =
-    with_some (coded format_number format_codes t.format) (λ format. with_some (coded sheet_number sheet_codes t.sheet) (λ sheet. with_some (coded unit_number unit_codes t.unit) (λ unit.
-    Some (record { rows = t.rows; columns = t.columns; format = format; sheet = sheet; extra = t.extra; unit = unit }))))
+    option_and_then (λ format. option_and_then (λ sheet. option_and_then (λ unit.
+    Some (record { rows = t.rows; columns = t.columns; format = format; sheet = sheet; extra = t.extra; unit = unit }))
+    (coded unit_number unit_codes t.unit)) (coded sheet_number sheet_codes t.sheet)) (coded format_number format_codes t.format)
 
 -- the mark is not that of a job, a code is unknown, or there are over 4,096 rows
 abbrev pub unknown : Trailer → Bool

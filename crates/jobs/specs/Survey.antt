@@ -1,5 +1,6 @@
 -- The survey of a job: all its words, decoded, and the header that comes of them.
 use Rattle.std.specs.Prelude.{◌≡◌, ℕ, ◌+◌, ◌%◌, List, [], ◌∷◌, take, drop, ℤ, pos, Some, None, Option, Result}
+use Rattle.std.specs.Option.{option_and_then}
 use Rattle.refusals.specs.declared.Refusal.{Refusal}
 use Rattle.refusals.specs.declared.Refusal.TheVariants.{NotFinite}
 use Rattle.refusals.specs.Refusing.{first, answer}
@@ -13,7 +14,7 @@ use Rattle.jobs.specs.declared.codes.FormatCode.TheVariants.{Binary16, Bfloat16,
 use Rattle.jobs.specs.declared.plan.Plan.{Plan}
 use Rattle.jobs.specs.Codes.{word_bytes}
 use Rattle.jobs.specs.Job.{job_check}
-use Rattle.jobs.specs.Plan.{with_some, plan_of, activation_bytes}
+use Rattle.jobs.specs.Plan.{plan_of, activation_bytes}
 use Rattle.jobs.specs.Trailer.{trailer_of}
 use Rattle.jobs.specs.Words.{little, words_in}
 
@@ -48,11 +49,19 @@ file_tile file p = activations_tile p (take (activation_bytes p) (drop (trailer_
 
 -- the checks of a job, and then of its words
 abbrev pub header_check : List ℕ → Option Refusal
-header_check file = first (job_check file) (with_some (plan_of (trailer_of file)) (λ p. tiles_check 0 (file_tile file p)))
+header_check file = first (job_check file) (option_and_then (λ p. tiles_check 0 (file_tile file p)) (plan_of (trailer_of file)))
 
--- rows and extra bits of the plan, and the larger of the format's least exponent and every exponent in the job
+-- the exponent that the words share: the larger of the format's least and every word's
+abbrev pub shared_of : Plan → Tile → ℤ
+shared_of p words = largest (coding_of p.format).least words
+
+-- rows and extra bits of the plan, and the shared exponent
+abbrev pub job_header : Plan → Tile → Header
+job_header p words = record { rows = p.rows; shared = shared_of p words; extra = p.extra }
+
+-- the header of the words that the file holds
 abbrev pub header_of : List ℕ → Plan → Header
-header_of file p = record { rows = p.rows; shared = largest (coding_of p.format).least (file_tile file p); extra = p.extra }
+header_of file p = job_header p (file_tile file p)
 
 -- the header of the plan that the file's trailer asks for
 abbrev pub HeaderOf : List ℕ → Header → Type 0

@@ -23,6 +23,7 @@ impl Job<'_> {
         ensures words { IfOk result (λ a. held_words a ≡ section_words self.now.plan.format self.now.activations.bytes.now) }
     {
         let bytes = self.activations.bytes;
+        // Each format is a type of its own, so each arm is written out.
         Ok(match self.plan.format {
             FormatCode::Binary16 => Activations::Binary16(words_of(heap, bytes)?),
             FormatCode::Bfloat16 => Activations::Bfloat16(words_of(heap, bytes)?),

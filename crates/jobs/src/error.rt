@@ -15,6 +15,7 @@ pub enum JobError {
     Memory(AllocError),
 }
 
+// By hand, this one and those below: what `#[from]` derives has no contract.
 impl From<Refusal> for JobError {
     ghost from_gives = { λ refusal e. e ≡ Refused refusal };
 

@@ -8,6 +8,7 @@ pub struct Section<'a> {
     pub bytes: &'a [u8],
 }
 
+// The facts of a job that was read are not held by the type: it would ask more of whoever makes one.
 #[derive(Clone, Copy)]
 pub struct Job<'a> {
     pub plan: Plan,

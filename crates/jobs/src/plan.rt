@@ -5,7 +5,7 @@ ghost use Rattle.jobs.specs.Plan.{plan_of, plan_check, activation_bytes, weight_
 
 use crate::codes::{FormatCode, UnitCode};
 use crate::trailer::Trailer;
-use alignment::ExtraBits;
+use alignment::{ExtraBits, TILE_WORDS};
 use columns::Columns;
 use refusals::Refusal;
 use sheets::SheetCode;
@@ -25,8 +25,8 @@ const MARK: u8 = 0x54;
 
 const MOST_ROWS: u16 = 4096;
 
-// Each sheet has the weights of so many rows, the last one fewer.
-const SHEET_ROWS: u16 = 128;
+// Each sheet has the weights of one tile, the last one fewer.
+const SHEET_ROWS: u16 = TILE_WORDS as u16;
 
 // What a trailer asks for.
 impl TryFrom<Trailer> for Plan {
@@ -41,7 +41,7 @@ impl TryFrom<Trailer> for Plan {
         if trailer.mark != MARK || trailer.rows > MOST_ROWS {
             return Err(Refusal::UnknownCode);
         }
-        // Checked and not kept: a plan's fields are plain, so that one of any counts can be asked how many bytes it takes.
+        // Checked and not kept: a narrower field would ask more of whoever makes a plan.
         Columns::new(usize::from(trailer.columns))?;
         ExtraBits::new(u32::from(trailer.extra))?;
         Ok(Plan {

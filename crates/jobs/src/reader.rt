@@ -25,7 +25,7 @@ impl<'a> Section<'a> {
 }
 
 impl<'a> Job<'a> {
-    // The job that a file holds, or why it holds none.
+    // The job that a file holds, or why it holds none. (`read`, as one says of a file; `try_from` would say less.)
     pub fn read(file: &'a [u8]) -> Result<Job<'a>, Refusal>
         ensures { Made (job_check file.now) (JobOf file.now) result }
     {

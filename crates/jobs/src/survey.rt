@@ -25,7 +25,7 @@ fn survey_tiles<F: Format>(format: &F, words: &[F::Word]) -> Result<i32, Refusal
 }
 
 impl Activations {
-    // The same of these words, of their format.
+    // The same of these words, of their format. Each format is a type of its own, so each arm is written out.
     fn survey(&self) -> Result<i32, Refusal>
         ensures { result ≡ surveyed (coding_of (format_of self.now)) (held_words self.now) }
     {

@@ -5,7 +5,8 @@ ghost use Rattle.std.proofs.Common.{lit≤};
 
 use std::alloc::{AllocError, Global};
 
-// A number of one, two or four bytes. (Each has a `from_le_bytes` of its own in the library, and no trait has them all.)
+// A number of one, two or four bytes. (A trait of our own: `FromBytes` of the crate num_traits takes an array of the width
+// and not a slice, and would be one crate more.)
 pub trait Word: Copy {
     ghost SIZE: { ℕ };
 

@@ -1,11 +1,12 @@
 use Rattle.std.proofs.lemmas.Result.{err_from_is_err_and}
-use Rattle.job_runs.proofs.Planned.{is_fair, holds, read_listed, no_job}
+use Rattle.jobs.proofs.Heading.{no_job}
+use Rattle.job_runs.proofs.Planned.{is_fair, holds, read_listed}
 use Rattle.job_runs.proofs.working.list_job.Goals as goal
 
 pub returns-in_err-job : goal.returns-in_err-job
 returns-in_err-job c =
     let p = err_from_is_err_and c.from_residual.result c.from_residual.ensures.1 in
-    rw (p.1, p.2) (no_job c.args.file.now _ c.in_err-job.ensures)
+    rw (p.1, p.2) (no_job c.args.file.now _ _ _ c.in_err-job.ensures)
 
 pub list_read-requires-clause-fair : goal.list_read-requires-clause-fair
 list_read-requires-clause-fair c = is_fair c.args.file.now c.in_ok-job.job c.in_ok-job.ensures

@@ -7,7 +7,7 @@ use Rattle.jobs.proofs.survey.header.Goals as goal
 pub returns-in_err-job : goal.returns-in_err-job
 returns-in_err-job c =
     let p = err_from_is_err_and c.from_residual.result c.from_residual.ensures.1 in
-    rw (p.1, p.2) (no_job c.args.file.now _ c.in_err-job.ensures)
+    rw (p.1, p.2) (no_job c.args.file.now _ _ _ c.in_err-job.ensures)
 
 pub returns-in_err-shared : goal.returns-in_err-shared
 returns-in_err-shared c =
