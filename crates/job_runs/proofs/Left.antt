@@ -1,8 +1,11 @@
 -- What is left to ask of a job's words and sheets behind a tile.
-use Rattle.std.proofs.Common.{◌≡◌, ℕ, suc, ◌+◌, ◌*◌, ◌/◌, ◌%◌, ◌<◌, min, List, [], ◌∷◌, ◌++◌, map, length, take, drop, pos, None, sym, refl, ap, ◌∙◌, ⊎_elim, add-mul, mul-zero, zero-mul, arith}
+use Rattle.std.proofs.Common.{◌≡◌, ℕ, suc, ◌+◌, ◌*◌, ◌/◌, ◌%◌, ◌<◌, min, List, [], ◌∷◌, ◌++◌, map, length, take, drop, pos, None, Ok, Err, Option, Result, IfOk, sym, refl, subst, ap, ◌∙◌, ⊎_elim, add-mul, mul-zero, zero-mul, arith}
 use Rattle.std.specs.List.{range_with_len}
 use Rattle.std.proofs.lemmas.List.{length-append, length-map, map-append, append_assoc, append-nil, take_all, take_at, drop_at, drop_all, drop-drop}
 use Rattle.std.proofs.lemmas.Bool.{cases_eq}
+use Rattle.std.proofs.lemmas.Iterator.{YieldsList}
+use Rattle.std.proofs.lemmas.Iterator.Splits.{YieldsList-from_shown_while}
+use Rattle.std.specs.Slice.Iter.{chunks_rest, chunks_size, chunks_steps}
 use Rattle.formats.specs.Coding.{Coding}
 use Rattle.alignment.specs.Tile.{Tile, tile_of}
 use Rattle.sheets.specs.declared.code.SheetCode.{SheetCode}
@@ -151,10 +154,8 @@ module _ {W : Type 0} (f : Coding W) (rest tile more : List W) (size : ℕ) (par
   after_one : (done now left all : List Event) (e : Event) → now ≡ done ++ e ∷ [] → all ≡ e ∷ left → now ++ left ≡ done ++ all
   after_one done now left all e is next = ap (λ es. es ++ left) is ∙ append_assoc done (e ∷ []) left ∙ ap (λ es. done ++ es) (sym next)
 
-  pub surveys_on : (done now : List Event) → now ≡ done ++ survey (tile_of f tile) ∷ [] → now ++ surveys (tile_of f more) ≡ done ++ surveys (tile_of f rest)
-  surveys_on done now is =
-      after_one done now (surveys (tile_of f more)) (surveys (tile_of f rest)) (survey (tile_of f tile)) is
-      (ap surveys joined ∙ surveys_step (tile_of f tile) (tile_of f more) as_some as_chunk)
+  surveys_on : surveys (tile_of f rest) ≡ survey (tile_of f tile) ∷ surveys (tile_of f more)
+  surveys_on = ap surveys joined ∙ surveys_step (tile_of f tile) (tile_of f more) as_some as_chunk
 
   module _ (p : Plan) where
     sheets_on : weight_bytes (sized p (length rest)) ≡ sheet_bytes p (length tile) + weight_bytes (sized p (length more))
@@ -181,13 +182,28 @@ pub sheets_behind : {W : Type 0} (rest tile more : List W) (size : ℕ) → rest
 sheets_behind rest tile more = sheets_on (record { precision = 1; least = pos 0; greatest = pos 0; decode = λ w. None }) rest tile more
 
 -- no words are left
-pub none_asked : {W : Type 0} (f : Coding W) (rest : List W) → length rest ≡ 0 → surveys (tile_of f rest) ≡ []
+none_asked : {W : Type 0} (f : Coding W) (rest : List W) → length rest ≡ 0 → surveys (tile_of f rest) ≡ []
 none_asked f [] e = refl
 none_asked f (w ∷ rest) e = absurd (omega arith)
 
 pub none_fed : {W : Type 0} (f : Coding W) (rest : List W) (p : Plan) (sheets : List ℕ) → length rest ≡ 0 → feeds p (tile_of f rest) sheets ≡ []
 none_fed f [] p sheets e = refl
 none_fed f (w ∷ rest) p sheets e = absurd (omega arith)
+
+-- `chunks` gives the tiles to survey
+pub tiles_yielded : {W : Type 0} (f : Coding W) (s : _) (words : List W) → chunks_size s ≡ 128 → chunks_rest s ≡ words
+    → YieldsList chunks_steps (λ x. survey (tile_of f x.now)) s (surveys (tile_of f words))
+tiles_yielded f s words size rest =
+    subst (λ ws. YieldsList chunks_steps (λ x. survey (tile_of f x.now)) s (surveys (tile_of f ws))) rest
+    (YieldsList-from_shown_while chunks_steps (λ x. survey (tile_of f x.now)) (λ t. surveys (tile_of f (chunks_rest t))) (λ t. chunks_size t ≡ 128)
+    (λ t u size end. ap length (none_asked f (chunks_rest t) end.1.0))
+    (λ t x u size next. (next.0 ∙ size, surveys_on f (chunks_rest t) x.now (chunks_rest u) (chunks_size t) next.1.0 next.1.1 size next.1.2))
+    s size)
+
+-- what holds of a result for each f
+pub for_each : {F X E : Type 0} (P : F → X → Type 0) (r : Result X E) → ((f : F) → IfOk r (P f)) → IfOk r (λ x. (f : F) → P f x)
+for_each P (Ok x) h = h
+for_each P (Err e) h = tt
 
 -- surveys, fix, feeds and reads, each asked behind the others
 pub in_order : (events fed fixed surveyed S F R : List Event) → events ≡ fed ++ R → fed ≡ fixed ++ F → fixed ≡ surveyed ++ fix ∷ [] → surveyed ≡ S → events ≡ S ++ fix ∷ (F ++ R)

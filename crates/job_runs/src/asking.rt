@@ -4,6 +4,8 @@ ghost use Rattle.formats.specs.Coding.{Coding};
 ghost use Rattle.alignment.specs.Tile.{tile_of};
 ghost use Rattle.sheets.specs.Meanings.{any_meaning};
 ghost use Rattle.sheets.specs.Packing.{page};
+ghost use Rattle.runs.specs.Log as log;
+ghost use Rattle.calls.specs.Work.{event_of};
 ghost use Rattle.jobs.specs.Plan.{sheet_bytes};
 ghost use Rattle.job_runs.specs.Events.{events_of, surveys, feeds, reads, job_events};
 
@@ -15,16 +17,19 @@ use std::alloc::{AllocError, Global};
 
 type Calls<'a, W> = Vec<Call<'a, W, AnySheet<'a>>>;
 
+// The survey of a tile. (A function with a name, since the borrow checker does not cover `map` with a closure here.)
+fn survey<'a, W>(tile: &'a [W]) -> Call<'a, W, AnySheet<'a>>
+    ensures { (f : Coding W) → event_of f any_meaning result ≡ log.survey (tile_of f tile.now) }
+{
+    Call::Survey(tile)
+}
+
 impl<'a, W: Copy> Material<'a, W> {
-    // Every tile is surveyed. (A loop for the same reason as that of the reads.)
+    // Every tile is surveyed.
     fn ask_surveys(&self, heap: Global) -> Result<Calls<'a, W>, AllocError>
         ensures { IfOk result (λ v. (f : Coding W) → events_of f v.items ≡ surveys (tile_of f self.now.words.now)) }
     {
-        let mut calls = Vec::new(heap);
-        for tile in self.words.chunks(TILE_WORDS) {
-            calls.push(Call::Survey(tile))?;
-        }
-        Ok(calls)
+        self.words.chunks(TILE_WORDS).map(survey).collect(heap)
     }
 
     // The sheet of so many rows in the bytes, which are as many as it takes.
@@ -56,7 +61,7 @@ impl<'a, W: Copy> Material<'a, W> {
     fn ask_reads(&self, mut calls: Calls<'a, W>) -> Result<Calls<'a, W>, AllocError>
         ensures { IfOk result (λ v. (f : Coding W) → events_of f v.items ≡ events_of f calls.entry.items ++ reads self.now.plan.columns) }
     {
-        // A loop, since the borrow checker does not cover `map(Call::Read)`: a call names a lifetime, and a number none.
+        // A loop: the borrow checker does not cover `map` here, as the result names a lifetime and a type that no argument names.
         for column in 0..usize::from(self.plan.columns) {
             calls.push(Call::Read(column))?;
         }

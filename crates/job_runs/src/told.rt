@@ -39,9 +39,8 @@ pub(crate) fn lines_of(heap: Global, readings: &[Reading]) -> Result<Vec<Line>, 
     requires { length readings.now ≤ 16 }
     ensures { IfOk result (λ v. v.items ≡ lines_from 0 readings.now) }
 {
-    let mut lines = Vec::new(heap);
-    for (column, reading) in (0u8..).zip(readings) {
-        lines.push(line(column, *reading))?;
-    }
-    Ok(lines)
+    (0u8..)
+        .zip(readings)
+        .map(|(column, reading)| line(column, *reading))
+        .collect(heap)
 }

@@ -42,6 +42,7 @@ fn list_on<F: Format + Drop, U: Unit + Drop>(
     ensures { ListedAs material.now.plan (tile_of (F.Format.meaning opening.format) material.now.words.now) material.now.weights.now result }
 {
     let calls = material.calls(heap)?;
+    // Taken apart by hand: a call cannot be misplaced here, and `JobError` has no such case.
     let worked = match work(heap, opening, calls.as_slice()) {
         Ok(worked) => worked,
         Err(WorkError::Memory(error)) => return Err(JobError::Memory(error)),
