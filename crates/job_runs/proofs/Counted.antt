@@ -44,7 +44,7 @@ lines_left =
     let start : (zip_first t).start ≡ (zip_first s).start + 1 = next.0.1 ∙ ap (λ n. n + 1) next.0.0 in (
       omega (arith, start, ap length rest, few),
       ap (lines_from (zip_first s).start) rest ∙ ap (λ c. line_of c x.1.now ∷ lines_from ((zip_first s).start + 1) (iter_rest (zip_second t))) (sym next.0.0)
-      ∙ ap (λ c. line_of x.0 x.1.now ∷ lines_from c (iter_rest (zip_second t))) (sym start),
+          ∙ ap (λ c. line_of x.0 x.1.now ∷ lines_from c (iter_rest (zip_second t))) (sym start),
     ))
   where
     by : (s : Zip (RangeFrom ℕ) (Iter Reading)) → (zip_first s).start + length (iter_rest (zip_second s)) ≤ 255

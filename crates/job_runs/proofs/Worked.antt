@@ -6,7 +6,7 @@ use Rattle.std.specs.List.{AllByRecursion}
 use Rattle.std.specs.declared.alloc.Global.{Global}
 use Rattle.columns.specs.Columns.{columns_check}
 use Rattle.refusals.specs.Refusing.{Made}
-use Rattle.refusals.proofs.Refusing.{made}
+use Rattle.refusals.proofs.Refusing.{made, was_made}
 use Rattle.formats.specs.Coding.{Coding}
 use Rattle.alignment.specs.Tile.{Tile, tile_of}
 use Rattle.sheets.specs.Meanings.{AnySheet, any_meaning}
@@ -47,11 +47,14 @@ pub record JobWorked (p : Plan) (words : Tile) (sheets : List ℕ) (given : List
   worked : WorkedAs (empty (job_setting p)) (job_events p words sheets) given s
 
 -- calls that a job asks for, on a run that is opened as its plan says
-module _ {F U W : Type 0} (coding : F → Coding W) (meaning : U → Meaning) (o : Opening F U) (m : Material W) (calls : List (Call W AnySheet))
-    (asked : events_of (coding o.format) calls ≡ job_events m.plan (tile_of (coding o.format) m.words.now) m.weights.now)
+module _ {F U W : Type 0} (coding : F → Coding W) (meaning : U → Meaning) (o : Opening F U) (m : Material W) (calls asked_for : List (Call W AnySheet)) (lent : calls ≡ asked_for)
+    (asking : (f : Coding W) → events_of f asked_for ≡ job_events m.plan (tile_of f m.words.now) m.weights.now)
     (opened : setting (coding o.format).least o.extra.bits (meaning o.unit) ≡ job_setting m.plan) where
   abbrev words : Tile
   words = tile_of (coding o.format) m.words.now
+
+  asked : events_of (coding o.format) calls ≡ job_events m.plan words m.weights.now
+  asked = ap (events_of (coding o.format)) lent ∙ asking (coding o.format)
 
   placed_so : (r : Result (Worked F U) WorkError) → WorkOf coding meaning any_meaning o calls r → WorkBy coding meaning (opened_log coding meaning o) (events_of (coding o.format) calls) None r
   placed_so r works =
@@ -70,31 +73,32 @@ module _ {F U W : Type 0} (coding : F → Coding W) (meaning : U → Meaning) (o
         (subst (λ (answers : List Answer). WorkedAs (opened_log coding meaning o) (events_of (coding o.format) calls) answers (state_of coding meaning w.run)) (sym all) (placed_so (Ok w) works)));
   }
 
-module _ {p : Plan} {words : Tile} {sheets : List ℕ} {given : List Answer} {s : State} (job : JobWorked p words sheets given s) where
-  firsts : first_refusal (job_answers p words sheets) ≡ first_refusal given
-  firsts = ap first_refusal (sym job.worked.answers)
+-- and no call was refused, so that there are readings
+module _ {p : Plan} {words : Tile} {sheets : List ℕ} {given : List Answer} {s : State} (job : JobWorked p words sheets given s)
+    (v : Vec Reading Global) (told : Made (first_refusal given) (λ w. vec_items w ≡ readings given) (Ok v)) where
+  read : (first_refusal given ≡ None) × (vec_items v ≡ readings given)
+  read = was_made (first_refusal given) (λ w. vec_items w ≡ readings given) v told
 
-  module _ (accepted : first_refusal given ≡ None) where
-    none : first_refusal (job_answers p words sheets) ≡ None
-    none = firsts ∙ accepted
+  none : first_refusal (job_answers p words sheets) ≡ None
+  none = ap first_refusal (sym job.worked.answers) ∙ read.0
 
-    pub aligned_then : s.aligned ≡ true
-    aligned_then = job.worked.holds.stage ∙ last_aligned p words sheets none
+  pub aligned_then : s.aligned ≡ true
+  aligned_then = job.worked.holds.stage ∙ last_aligned p words sheets none
 
-    module _ (rs : List Reading) (read : rs ≡ readings given) where
-      same : rs ≡ readings (job_answers p words sheets)
-      same = read ∙ ap readings job.worked.answers
+  module _ (rs : List Reading) (all : rs ≡ vec_items v) where
+    same : rs ≡ readings (job_answers p words sheets)
+    same = all ∙ read.1 ∙ ap readings job.worked.answers
 
-      pub few_readings : Fair p → length rs ≤ 16
-      few_readings fair =
-          omega (arith, few p.columns fair.columns, ap length (same ∙ job_readings p words sheets none), length-map-range_with_len (job_reading p words sheets) 0 p.columns)
+    pub few_readings : Fair p → length rs ≤ 16
+    few_readings fair =
+        omega (arith, few p.columns fair.columns, ap length (same ∙ job_readings p words sheets none), length-map-range_with_len (job_reading p words sheets) 0 p.columns)
 
-      pub job_listed : (shared : ℤ) → shared ≡ s.shared → (lines : Vec Line Global) → vec_items lines ≡ lines_from 0 rs
-          → Made (first_refusal (job_answers p words sheets)) (Lists p words sheets) (Ok (record { header = record { rows = p.rows; shared = shared; extra = p.extra }; lines = lines }))
-      job_listed shared is_shared lines is-lines =
-          let lined = is-lines ∙ ap (lines_from 0) same ∙ job_lines p words sheets none in
-          made (first_refusal (job_answers p words sheets)) _ _ none (record {
-            headed = ap (λ (z : ℤ). record { rows = p.rows; shared = z; extra = p.extra }) (is_shared ∙ job.worked.holds.shared ∙ last_shared p words sheets none);
-            lines = lined;
-            told = subst (λ (ls : List Line). AllByRecursion (Told p words sheets) ls) (sym lined) (lines_tell p words sheets 0 p.columns);
-          })
+    pub job_listed : (shared : ℤ) → shared ≡ s.shared → (lines : Vec Line Global) → vec_items lines ≡ lines_from 0 rs
+        → Made (first_refusal (job_answers p words sheets)) (Lists p words sheets) (Ok (record { header = record { rows = p.rows; shared = shared; extra = p.extra }; lines = lines }))
+    job_listed shared is_shared lines is-lines =
+        let lined = is-lines ∙ ap (lines_from 0) same ∙ job_lines p words sheets none in
+        made (first_refusal (job_answers p words sheets)) _ _ none (record {
+          headed = ap (λ (z : ℤ). record { rows = p.rows; shared = z; extra = p.extra }) (is_shared ∙ job.worked.holds.shared ∙ last_shared p words sheets none);
+          lines = lined;
+          told = subst (λ (ls : List Line). AllByRecursion (Told p words sheets) ls) (sym lined) (lines_tell p words sheets 0 p.columns);
+        })
