@@ -1,5 +1,5 @@
 -- What is left to ask of a job's words and sheets behind a tile.
-use Rattle.std.proofs.Common.{◌≡◌, ℕ, suc, ◌+◌, ◌*◌, ◌/◌, ◌%◌, ◌<◌, min, List, [], ◌∷◌, ◌++◌, map, length, take, drop, pos, None, Ok, Err, Option, Result, IfOk, sym, refl, subst, ap, ◌∙◌, ⊎_elim, add-mul, mul-zero, zero-mul, arith}
+use Rattle.std.proofs.Common.{◌≡◌, ℕ, suc, ◌+◌, ◌*◌, ◌/◌, ◌%◌, ◌<◌, min, List, [], ◌∷◌, ◌++◌, map, length, take, drop, pos, None, Ok, Err, Result, IfOk, sym, refl, subst, ap, ◌∙◌, ⊎_elim, add-mul, mul-zero, zero-mul, arith}
 use Rattle.std.specs.List.{range_with_len}
 use Rattle.std.proofs.lemmas.List.{length-append, length-map, map-append, append_assoc, append-nil, take_all, take_at, drop_at, drop_all, drop-drop}
 use Rattle.std.proofs.lemmas.Bool.{cases_eq}

@@ -1,5 +1,5 @@
 -- What a file is listed as: why it is refused, or its header and a line for each column.
-use Rattle.std.specs.Prelude.{◌≡◌, ℕ, List, map, ℤ, pos, ◌-ℤ◌, Some, vec_items, Option, Result}
+use Rattle.std.specs.Prelude.{◌≡◌, ℕ, List, map, pos, ◌-ℤ◌, Some, vec_items, Option, Result}
 use Rattle.std.specs.List.{range_with_len, AllByRecursion}
 use Rattle.std.specs.Option.{option_and_then}
 use Rattle.refusals.specs.declared.Refusal.{Refusal}

@@ -61,7 +61,7 @@ impl<'a, W: Copy> Material<'a, W> {
     fn ask_reads(&self, mut calls: Calls<'a, W>) -> Result<Calls<'a, W>, AllocError>
         ensures { IfOk result (λ v. (f : Coding W) → events_of f v.items ≡ events_of f calls.entry.items ++ reads self.now.plan.columns) }
     {
-        // A loop: the borrow checker does not cover `map` here, as the result names a lifetime and a type that no argument names.
+        // A loop: the borrow checker covers no `map` whose result names a lifetime and a type that no argument names.
         for column in 0..usize::from(self.plan.columns) {
             calls.push(Call::Read(column))?;
         }
