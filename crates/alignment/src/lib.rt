@@ -8,5 +8,5 @@ mod survey;
 pub use checked::{ExtraBits, SharedExponent, Step};
 pub use cutting::{Aligned, cut_tile, lined_up};
 
-// The most words of a tile.
+// The most words of a tile. Each public call tests the words that it is given: a type for tiles would ask more of callers.
 pub const TILE_WORDS: usize = 128;
