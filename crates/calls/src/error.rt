@@ -12,7 +12,7 @@ pub struct Misplaced {
     pub call: usize,
 }
 
-// A call is misplaced, or memory ran out.
+// A call is misplaced, or memory ran out. (A job's error has other cases, and a crate of its own.)
 #[derive(Clone, Copy, PartialEq, Eq, Debug, Error)]
 pub enum WorkError {
     #[error(transparent)]

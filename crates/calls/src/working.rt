@@ -13,7 +13,7 @@ use std::alloc::Global;
 use units::Unit;
 
 impl<F: Format, U: Unit> Run<F, U> {
-    // Makes a call that the run's state allows.
+    // Makes a call that the run's state allows. (A match, and no list of closures: all calls are checked before any is made.)
     fn make<S: Sheet>(self, call: &Call<'_, F::Word, S>) -> (Run<F, U>, Answer)
         requires { allowed (is_aligned self) (event_of (F.Format.meaning (format_of self)) S.Sheet.meaning call.now) ≡ true }
         ensures format { format_of result.0 ≡ format_of self }

@@ -14,7 +14,7 @@ pub enum FormatCode {
     Fixed8,
 }
 
-// The format that a number stands for.
+// The format that a number stands for. (Each code is a table of its own, so each `try_from` is written out.)
 impl TryFrom<u8> for FormatCode {
     type Error = Refusal;
 

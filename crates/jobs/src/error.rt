@@ -6,7 +6,7 @@ use refusals::Refusal;
 use std::alloc::{AllocError, AllocFailed};
 use thiserror::Error;
 
-// The file is refused, or memory ran out.
+// The file is refused, or memory ran out. (The error of a list of calls has other cases, and a crate of its own.)
 #[derive(Clone, Copy, PartialEq, Eq, Debug, Error)]
 pub enum JobError {
     #[error(transparent)]

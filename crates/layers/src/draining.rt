@@ -1,7 +1,7 @@
 // The drain layer: lifts the row limit of the unit below by moving its totals up whenever it is full.
 ghost use Rattle.std.specs.Prelude.{◌≡◌, ◌+◌, ◌≤◌, length};
 ghost use Rattle.refusals.specs.Refusing.{verdict};
-ghost use Rattle.units.specs.Meaning.{Bounded, reach, columns_of, plus_each, add_check, after_add, cleared};
+ghost use Rattle.units.specs.Meaning.{Bounded, reach, plus_each, add_check, after_add, cleared};
 
 use columns::MOST_COLUMNS;
 use refusals::Refusal;

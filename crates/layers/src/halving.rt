@@ -2,7 +2,7 @@
 // a × (2w + 1) is twice a × w, and a, a total below is twice the layer's and the sum of all aligned numbers.
 ghost use Rattle.std.specs.Prelude.{◌≡◌, ◌*◌, ◌^◌, ◌≤◌, map, unsigned_abs};
 ghost use Rattle.refusals.specs.Refusing.{verdict};
-ghost use Rattle.units.specs.Meaning.{Bounded, add_check, after_add, cleared};
+ghost use Rattle.units.specs.Meaning.{add_check, after_add, cleared};
 ghost use Rattle.layers.specs.Halving.{odd_of};
 
 use arrayvec::ArrayVec;

@@ -1,7 +1,8 @@
 // Feeding a tile: all its checks first, and then its rows, one by one.
-ghost use Rattle.std.specs.Prelude.{◌≡◌, ℕ, ◌^◌, ◌<◌, ◌≤◌, length, if◌then◌else◌, None, slice_index, unsigned_abs};
+ghost use Rattle.std.specs.Prelude.{◌≡◌, ℕ, ◌^◌, ◌<◌, ◌≤◌, length, if◌then◌else◌, None, slice_index};
 ghost use Rattle.refusals.specs.Refusing.{verdict};
 ghost use Rattle.alignment.specs.Tile.{tile_of};
+ghost use Rattle.alignment.specs.Cutting.{Small};
 ghost use Rattle.sheets.specs.Page.{line};
 ghost use Rattle.units.specs.Meaning.{columns_of, first_untaken};
 ghost use Rattle.runs.specs.Checks.{row_check, rows_check};
@@ -37,7 +38,8 @@ fn note_loss(slacks: &mut [u32; MOST_COLUMNS], cut: Aligned, weights: &[i16])
     if !cut.lost {
         return;
     }
-    // By column: of `iter_mut` zipped with the weights a proof would know no element.
+    // By the weights' columns: of `iter_mut` zipped with the weights a proof would know no element, and over a slice of the
+    // slacks it would be the weights that go by column.
     for (column, weight) in weights.iter().enumerate() {
         slacks[column] += u32::from(weight.unsigned_abs());
     }
@@ -55,7 +57,7 @@ impl<F: Format, U: Unit> AlignedRun<F, U> {
         }
     }
 
-    // The checks of all rows, in turn.
+    // The checks of all rows, in turn. (Words and sheet stay two, here and below: they are what a feed is given.)
     fn check_rows<S: Sheet>(&self, words: &[F::Word], sheet: &S) -> Result<(), Refusal>
         requires { length words.now ≡ (S.Sheet.meaning sheet.now).rows }
         ensures { result ≡ verdict (rows_check self.now.step.shared.exponent (U.Unit.meaning self.now.unit).takes (S.Sheet.meaning sheet.now) 0 (tile_of (F.Format.meaning self.now.format) words.now)) }
@@ -90,7 +92,7 @@ impl<F: Format, U: Unit> AlignedRun<F, U> {
     // Adds a row that passed its checks to the unit, and what it lost to the slacks.
     fn add_row(&mut self, cut: Aligned, weights: &[i16])
         requires columns { length weights.now ≡ columns_of (U.Unit.meaning self.old.unit) }
-        requires small { unsigned_abs cut.number < 2 ^ 36 }
+        requires small { Small cut }
         requires taken { first_untaken (U.Unit.meaning self.old.unit).takes weights.now ≡ None }
         requires room { (U.Unit.meaning self.old.unit).rows < (U.Unit.meaning self.old.unit).limit }
         requires few { self.old.rows < 65536 }

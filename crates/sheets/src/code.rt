@@ -12,7 +12,8 @@ pub enum SheetCode {
     Planes(u8),
 }
 
-// The packing that a number stands for: 1 and 2 for bytes and nibbles, 11 to 18 for 1 to 8 planes.
+// The packing that a number stands for: 1 and 2 for bytes and nibbles, 11 to 18 for 1 to 8 planes. (Each code is a table of
+// its own, so each `try_from` is written out.)
 impl TryFrom<u8> for SheetCode {
     type Error = Refusal;
 

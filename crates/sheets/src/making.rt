@@ -14,13 +14,14 @@ use crate::packing::{Bytes, Nibbles};
 use crate::planes::BitPlanes;
 use refusals::Refusal;
 
+// The names of the four, each with a `new` that says what it is made of; all of them go through `Packed::over`.
 pub type ByteSheet<'a> = Packed<'a, Bytes>;
 
 pub type NibbleSheet<'a> = Packed<'a, Nibbles>;
 
 pub type PlaneSheet<'a> = Packed<'a, BitPlanes>;
 
-// Its packing is known only when the program runs. What each is made of differs, so each has a `new` of its own.
+// Its packing is known only when the program runs.
 pub type AnySheet<'a> = Packed<'a, AnyPacking>;
 
 impl<'a> Packed<'a, Bytes> {

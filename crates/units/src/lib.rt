@@ -16,6 +16,7 @@ pub trait Unit {
     // What the unit holds and takes. Every call is told by this alone.
     ghost meaning: { Self → Meaning };
 
+    // (Each unit and layer tells it of its own fields, so a line of it stands in each.)
     fn columns(&self) -> usize
         ensures { result ≡ columns_of (meaning self.now) };
 
