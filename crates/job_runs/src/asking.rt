@@ -42,7 +42,8 @@ impl<'a, W: Copy> Material<'a, W> {
         AnySheet::new(self.plan.sheet, rows, columns, bytes).unwrap()
     }
 
-    // Every tile is fed with its sheet.
+    // Every tile is fed with its sheet. (Cut off sheet by sheet, since the last one is shorter: that tiles and sheets as
+    // `chunks` lie side by side would have to be proved, and is not plainer to read.)
     fn ask_feeds(&self, mut calls: Calls<'a, W>) -> Result<Calls<'a, W>, AllocError>
         ensures { IfOk result (λ v. (f : Coding W) → events_of f v.items ≡ events_of f calls.entry.items ++ feeds self.now.plan (tile_of f self.now.words.now) self.now.weights.now) }
     {
