@@ -39,8 +39,10 @@ pub(crate) fn lines_of(heap: Global, readings: &[Reading]) -> Result<Vec<Line>, 
     requires { length readings.now ≤ 16 }
     ensures { IfOk result (λ v. v.items ≡ lines_from 0 readings.now) }
 {
-    (0u8..)
-        .zip(readings)
-        .map(|(column, reading)| line(column, *reading))
-        .collect(heap)
+    // A loop, which proves of its invariant: of a range zipped and mapped it would take several lemmas that it ends in time.
+    let mut lines = Vec::new(heap);
+    for (column, reading) in (0u8..).zip(readings) {
+        lines.push(line(column, *reading))?;
+    }
+    Ok(lines)
 }
