@@ -14,7 +14,7 @@ pub const MOST_COLUMNS: usize = 16;
 // generic one, the range, the refusal and the meaning would all be parameters.)
 #[derive(Clone, Copy)]
 pub struct Columns {
-    count: usize,
+    count: u8,
     ghost some: { 1 ≤ count },
     ghost few: { count ≤ 16 },
 }
@@ -26,12 +26,12 @@ impl Columns {
         if count == 0 || count > MOST_COLUMNS {
             return Err(Refusal::ColumnCount);
         }
-        Ok(Columns { count })
+        Ok(Columns { count: count as u8 })
     }
 
     pub fn count(self) -> usize
         ensures { result ≡ self.count }
     {
-        self.count
+        usize::from(self.count)
     }
 }

@@ -3,16 +3,9 @@ use Rattle.sheets.specs.declared.any.AnyPacking.{AnyPacking}
 use Rattle.sheets.specs.declared.any.AnyPacking.TheVariants as any
 use Rattle.sheets.specs.declared.code.SheetCode.{SheetCode}
 use Rattle.sheets.specs.declared.code.SheetCode.TheVariants.{Byte, Nibble, Planes}
-use Rattle.sheets.specs.Code.{FewPlanes}
 
 -- which of the packings it is
 abbrev pub any_code : AnyPacking → SheetCode
 any_code (any.Byte p) = Byte
 any_code (any.Nibble p) = Nibble
 any_code (any.Planes p) = Planes p.count
-
--- it has at most 8 planes, where there are planes
-pub any_few : (p : AnyPacking) → FewPlanes (any_code p)
-any_few (any.Byte p) = tt
-any_few (any.Nibble p) = tt
-any_few (any.Planes p) = p.few

@@ -4,8 +4,11 @@ use Rattle.std.proofs.Math.Nat.{pow-succ'}
 use Rattle.std.proofs.Common.{arith, pow_pos, pow_mono}
 use Rattle.std.proofs.lemmas.Int.{ints}
 use Rattle.std.proofs.lemmas.Bool.{cond_both, ltb-true, ltb-false}
+use Rattle.sheets.specs.declared.any.AnyPacking.{AnyPacking}
+use Rattle.sheets.specs.declared.any.AnyPacking.TheVariants as any
 use Rattle.sheets.specs.declared.code.SheetCode.{SheetCode}
 use Rattle.sheets.specs.declared.code.SheetCode.TheVariants.{Byte, Nibble, Planes}
+use Rattle.sheets.specs.Any.{any_code}
 use Rattle.sheets.specs.Code.{FewPlanes, plane_length}
 use Rattle.sheets.specs.Packing.{signed, nibble_at, bit_at, plane_sum, weight_at, page}
 use Rattle.sheets.specs.Page.{Lawful}
@@ -37,3 +40,9 @@ page_lawful code few few_rows some few_columns bytes = record {
   few_columns = few_columns;
   small = λ row column. weight_small code few _ bytes _;
 }
+
+-- a packing of any kind has at most 8 planes, where there are planes
+pub any_few : (p : AnyPacking) → FewPlanes (any_code p)
+any_few (any.Byte p) = tt
+any_few (any.Nibble p) = tt
+any_few (any.Planes p) = p.few

@@ -4,5 +4,6 @@ pub mod Packing
 pub mod Making
 pub mod Any
 pub mod Meanings
+pub mod Known
 pub mod Lawful
 pub mod Laws

@@ -1,7 +1,7 @@
 // A packing that is known only when the program runs.
 ghost use Rattle.refusals.specs.Refusing.{Made};
 ghost use Rattle.std.specs.Prelude.{◌≡◌};
-ghost use Rattle.sheets.specs.Any.{any_code, any_few};
+ghost use Rattle.sheets.specs.Any.{any_code};
 ghost use Rattle.sheets.specs.Making.{planes_check};
 
 use crate::code::SheetCode;
@@ -33,6 +33,8 @@ impl TryFrom<SheetCode> for AnyPacking {
 }
 
 impl Packing for AnyPacking {
+    ghost use Rattle.sheets.specs.Lawful.{any_few};
+
     ghost code = { any_code };
 
     fn code(self) -> SheetCode {
@@ -52,6 +54,14 @@ impl Packing for AnyPacking {
             AnyPacking::Byte(packing) => packing.weight(bytes, places, place),
             AnyPacking::Nibble(packing) => packing.weight(bytes, places, place),
             AnyPacking::Planes(packing) => packing.weight(bytes, places, place),
+        }
+    }
+
+    fn weights(self, bytes: &[u8], places: usize, first: usize, buffer: &mut [i16]) {
+        match self {
+            AnyPacking::Byte(packing) => packing.weights(bytes, places, first, buffer),
+            AnyPacking::Nibble(packing) => packing.weights(bytes, places, first, buffer),
+            AnyPacking::Planes(packing) => packing.weights(bytes, places, first, buffer),
         }
     }
 

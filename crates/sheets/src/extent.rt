@@ -10,10 +10,10 @@ use refusals::Refusal;
 // A sheet has at most so many rows.
 const MOST_ROWS: usize = 128;
 
-// At most 128 rows, and 1 to 16 columns.
+// At most 128 rows, and 1 to 16 columns. (In bytes, since a list of calls holds a sheet in each feed.)
 #[derive(Clone, Copy)]
 pub(crate) struct Extent {
-    rows: usize,
+    rows: u8,
     columns: Columns,
     ghost few_rows: { rows ≤ 128 },
 }
@@ -26,13 +26,16 @@ impl Extent {
             return Err(Refusal::TooManyRows);
         }
         let columns = Columns::new(columns)?;
-        Ok(Extent { rows, columns })
+        Ok(Extent {
+            rows: rows as u8,
+            columns,
+        })
     }
 
     pub fn rows(self) -> usize
         ensures { result ≡ self.rows }
     {
-        self.rows
+        usize::from(self.rows)
     }
 
     pub fn columns(self) -> usize

@@ -11,6 +11,7 @@ mod any;
 mod bits;
 mod code;
 mod extent;
+mod known;
 mod laws;
 mod making;
 mod packed;
@@ -18,6 +19,7 @@ mod packing;
 mod planes;
 
 pub use code::SheetCode;
+pub use known::KnownSheet;
 pub use laws::{codes_stand_for_weights, spare_bits_unread};
 pub use making::{AnySheet, ByteSheet, NibbleSheet, PlaneSheet};
 

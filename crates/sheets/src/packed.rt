@@ -5,8 +5,10 @@ ghost use Rattle.sheets.specs.Code.{byte_length};
 ghost use Rattle.sheets.specs.Making.{length_check};
 
 use crate::Sheet;
+use crate::any::AnyPacking;
 use crate::code::SheetCode;
 use crate::extent::Extent;
+use crate::known::KnownSheet;
 use crate::making::AnySheet;
 use crate::packing::Packing;
 use refusals::Refusal;
@@ -77,6 +79,42 @@ impl<'a, P: Packing> Packed<'a, P> {
             bytes,
         }
     }
+
+    // The same bytes, by another type for the packing that they have.
+    fn as_packed<Q: Packing>(self, packing: Q) -> Packed<'a, Q>
+        requires { Q.code packing ≡ P.code self.packing }
+        ensures packing { result.packing ≡ packing }
+        ensures meaning { packed_meaning result ≡ packed_meaning self.entry }
+    {
+        let Packed {
+            packing: _,
+            extent,
+            bytes,
+        } = self;
+        Packed {
+            packing,
+            extent,
+            bytes,
+        }
+    }
+}
+
+impl<'a> Packed<'a, AnyPacking> {
+    ghost use Rattle.sheets.specs.Any.{any_code};
+    ghost use Rattle.sheets.specs.Known.{known_code, known_meaning};
+    ghost use Rattle.sheets.specs.Meanings.{any_meaning};
+
+    // The same sheet, as one of the packing that it has.
+    pub fn known(self) -> KnownSheet<'a>
+        ensures code { known_code result ≡ any_code self.entry.packing }
+        ensures meaning { known_meaning result ≡ any_meaning self.entry }
+    {
+        match self.packing {
+            AnyPacking::Byte(packing) => KnownSheet::Byte(self.as_packed(packing)),
+            AnyPacking::Nibble(packing) => KnownSheet::Nibble(self.as_packed(packing)),
+            AnyPacking::Planes(packing) => KnownSheet::Planes(self.as_packed(packing)),
+        }
+    }
 }
 
 impl<'a, P: Packing> Sheet for Packed<'a, P> {
@@ -96,6 +134,17 @@ impl<'a, P: Packing> Sheet for Packed<'a, P> {
     fn weight(&self, row: usize, column: usize) -> Result<i16, Refusal> {
         let place = self.extent.place(row, column)?;
         Ok(self.packing.weight(self.bytes, self.extent.places(), place))
+    }
+
+    // Not weight by weight: the packing is told apart once for the whole row.
+    fn row(&self, row: usize, buffer: &mut [i16]) -> Result<(), Refusal> {
+        let first = self.extent.place(row, 0)?;
+        if buffer.len() != self.columns() {
+            return Err(Refusal::WeightCount);
+        }
+        let places = self.extent.places();
+        self.packing.weights(self.bytes, places, first, buffer);
+        Ok(())
     }
 
     ghost lawful = { λ s. page_lawful (P.code s.packing) (P.few s.packing) s.extent.few_rows s.extent.columns.some s.extent.columns.few s.bytes.now };

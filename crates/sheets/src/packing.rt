@@ -1,5 +1,6 @@
 // How weights lie in bytes: a byte to each, or half a byte.
-ghost use Rattle.std.specs.Prelude.{◌≡◌, ◌<◌, length};
+ghost use Rattle.std.specs.Prelude.{◌≡◌, ◌+◌, ◌<◌, ◌≤◌, length, map};
+ghost use Rattle.std.specs.List.{range_with_len};
 ghost use Rattle.sheets.specs.declared.code.SheetCode.{SheetCode};
 ghost use Rattle.sheets.specs.declared.code.SheetCode.TheVariants.{Byte, Nibble};
 ghost use Rattle.sheets.specs.Any.{any_code};
@@ -26,6 +27,17 @@ pub trait Packing: Copy {
         requires whole { length bytes.now ≡ byte_length (code self) places }
         requires inside { place < places }
         ensures { result ≡ weight_at (code self) places bytes.now place };
+
+    // Writes the weights of places that follow one another, from one on. A packing of any kind is told apart once for all.
+    fn weights(self, bytes: &[u8], places: usize, first: usize, buffer: &mut [i16])
+        requires whole { length bytes.now ≡ byte_length (code self) places }
+        requires inside { first + length buffer.old ≤ places }
+        ensures { buffer.new ≡ map (λ k. weight_at (code self) places bytes.now (first + k)) (range_with_len 0 (length buffer.old)) }
+    {
+        for (k, weight) in buffer.iter_mut().enumerate() {
+            *weight = self.weight(bytes, places, first + k);
+        }
+    }
 
     // There are at most 8 planes, where there are planes.
     ghost few: { (p : Self) → FewPlanes (code p) };
