@@ -102,7 +102,7 @@ impl<U: Unit> Unit for Odd<U> {
         ensures grows { odd (odd_holds U.Unit self.new) ≡ after_add (odd (odd_holds U.Unit self.old)) a weights.now }
         ensures steps { odd_holds U.Unit self.new ≡ odd_add (odd_holds U.Unit self.old) a weights.now }
     {
-        let row = self.check(a, weights)?;
+        let row = self.checked_row(a, weights)?;
         self.rows += 1;
         self.sum += a;
         add_odd(&mut self.below, row)

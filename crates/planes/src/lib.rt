@@ -134,7 +134,7 @@ impl Unit for Plane {
         ensures grows { plane self.new ≡ after_add (plane self.old) a weights.now }
         ensures spreads { self.new.sums.items ≡ unless (add_check (plane self.old) a weights.now) self.old.sums.items (spread self.old.sums.items a weights.now) }
     {
-        let row = self.check(a, weights)?;
+        let row = self.checked_row(a, weights)?;
         self.rows += 1;
         add_row(&mut self.sums, row);
         Ok(())

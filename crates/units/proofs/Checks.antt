@@ -79,7 +79,7 @@ number_at_ok a n fits e =
     let same = (was_made _ (λ n. n.value ≡ to_z w64 (of_z w64 a)) n e).1 ∙ to_z-of_z w64 a fits in
     (same, subst (λ z. unsigned_abs z < 2 ^ 36) same n.small)
 
--- the row that `check` gives: no check refuses it, and it is the one that was asked for
+-- the row that `checked_row` gives: no check refuses it, and it is the one that was asked for
 pub record Checked (m : Meaning) (a : ℤ) (ws : List ℤ) (row : Row) : Type 0 where
   pub accepted : Accepted m a ws
   pub number : row.number.value ≡ a
@@ -91,6 +91,11 @@ checked m a ws row fits e =
     let given = subst (λ b. Made (add_check m b ws) (λ r. (r.number.value ≡ b) × (r.weights.now ≡ ws)) (Ok row)) (to_z-of_z w64 a fits) e in
     let parts = was_made (add_check m a ws) (λ r. (r.number.value ≡ a) × (r.weights.now ≡ ws)) row given in
     record { accepted = when_accepted m a ws parts.0; number = parts.1.0; weights = parts.1.1 }
+
+-- what `check` tells where it answers `Ok`, its number read back from bits
+pub accepted_at_ok : (m : Meaning) (a : ℤ) (ws : List ℤ) → FitsSigned w64 a → Ok tt ≡ verdict (add_check m (to_z w64 (of_z w64 a)) ws) → Accepted m a ws
+accepted_at_ok m a ws fits e =
+    when_accepted m a ws (when_ok _ tt tt (subst (λ b. Ok tt ≡ verdict (add_check m b ws)) (to_z-of_z w64 a fits) e)).0
 
 -- what an accepted add answers, and leaves
 pub answers_ok : (m : Meaning) (a : ℤ) (ws : List ℤ) → Accepted m a ws → Ok tt ≡ verdict (add_check m a ws)

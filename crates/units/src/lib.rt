@@ -41,8 +41,16 @@ pub trait Unit {
         weights.iter().position(|weight| !self.takes(*weight))
     }
 
+    // What an add of this row would answer.
+    fn check(&self, a: i64, weights: &[i16]) -> Result<(), Refusal>
+        ensures { result ≡ verdict (add_check (meaning self.now) a weights.now) }
+    {
+        self.checked_row(a, weights)?;
+        Ok(())
+    }
+
     // The row, or what an add of it would be refused by.
-    fn check<'a>(&self, a: i64, weights: &'a [i16]) -> Result<Row<'a>, Refusal>
+    fn checked_row<'a>(&self, a: i64, weights: &'a [i16]) -> Result<Row<'a>, Refusal>
         ensures { Made (add_check (meaning self.now) a weights.now) (λ r. (r.number.value ≡ a) × (r.weights.now ≡ weights.now)) result }
     {
         if weights.len() != self.columns() {

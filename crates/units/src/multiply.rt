@@ -87,7 +87,7 @@ impl Unit for Multiplier {
     }
 
     fn add(&mut self, a: i64, weights: &[i16]) -> Result<(), Refusal> {
-        let row = self.check(a, weights)?;
+        let row = self.checked_row(a, weights)?;
         self.rows += 1;
         grow(&mut self.sums, row);
         Ok(())

@@ -3,7 +3,7 @@ use Rattle.std.specs.Option.{option_map}
 use Rattle.refusals.specs.declared.Refusal.TheVariants.{WeightNotTaken}
 use Rattle.refusals.proofs.Refusing.{made, unmade}
 use Rattle.units.proofs.Checks.{number_at_ok, column_decides, when_accepted, weights_bounded}
-use Rattle.units.proofs.Unit.check.Goals as goal
+use Rattle.units.proofs.Unit.checked_row.Goals as goal
 
 pub returns-in-Some : goal.returns-in-Some
 returns-in-Some g c =
