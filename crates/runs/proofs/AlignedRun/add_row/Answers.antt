@@ -1,11 +1,8 @@
-use Rattle.std.proofs.Common.{◌≡◌, ℕ, ◌+◌, ◌*◌, ◌≤◌, length, List, get_or, sym, refl, ap, ◌∙◌, subst, arith, w64, SFits, rules}
+use Rattle.std.proofs.Common.{◌≡◌, ℕ, ◌+◌, ◌*◌, ◌≤◌, length, List, get_or, sym, ap, ◌∙◌, subst, arith, w64, SFits, rules}
 use Rattle.std.proofs.lemmas.Int.{to_z-of_z}
-use Rattle.std.specs.Result.{IsOk}
-use Rattle.refusals.specs.Refusing.{verdict}
-use Rattle.units.specs.Meaning.{add_check, after_add}
-use Rattle.units.proofs.Checks.{answers_ok, leaves_added, weights_bounded}
+use Rattle.units.proofs.Checks.{weights_bounded}
 use Rattle.runs.specs.Runs.{aligned}
-use Rattle.runs.proofs.Adding.{slacks_bounded, accepted_row, row_put}
+use Rattle.runs.proofs.Adding.{slacks_bounded, accepted_row, unit_taken, unit_added, row_put}
 use Rattle.runs.proofs.Holding.{length_row}
 use Rattle.runs.proofs.AlignedRun.add_row.Goals as goal
 
@@ -17,8 +14,7 @@ unwrap-requires g c =
     let ws = c.args.weights.now in
     let fits : SFits w64 number = search rules in
     let ok = accepted_row unit number ws c.requires.columns c.requires.room c.requires.small c.requires.taken in
-    let answered = subst (λ a. c.add.result ≡ verdict (add_check unit a ws)) (to_z-of_z w64 number fits) c.add.ensures.answers in
-    subst IsOk (sym (answered ∙ sym (answers_ok unit number ws ok))) refl
+    unit_taken unit _ number ws (to_z-of_z w64 number fits) ok _ (search rules)
 
 pub invariant_of-self : goal.invariant_of-self
 invariant_of-self g c =
@@ -42,5 +38,4 @@ returns-clause-puts g c =
     let number = c.args.cut.number in
     let fits : SFits w64 number = search rules in
     let ok = accepted_row s.unit number ws c.requires.columns c.requires.room c.requires.small c.requires.taken in
-    let grew = subst (λ a. g.U.Unit.meaning c.add.new.self ≡ after_add s.unit a ws) (to_z-of_z w64 number fits) c.add.ensures.grows in
-    row_put s number c.args.cut.lost ws _ _ (grew ∙ sym (leaves_added s.unit number ws ok)) c.note_loss.ensures
+    row_put s number c.args.cut.lost ws _ _ (unit_added s.unit _ _ number ws (to_z-of_z w64 number fits) ok (search rules)) c.note_loss.ensures
