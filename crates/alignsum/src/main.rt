@@ -25,3 +25,15 @@ fn main(rt: HostRuntime) -> io::Result<()> {
     let _ = rt.stdin().take(MOST_READ).read_to_end(&mut file)?;
     rt.print(answer(rt.alloc(), file.as_slice())?)
 }
+
+#[cfg(test)]
+mod tests {
+    use super::*;
+    use std::test::Fail;
+
+    #[test]
+    fn refused_by_its_number(rt: HostRuntime) -> Result<(), Fail> {
+        assert_eq!(rt; answer(rt.alloc(), b"no job")?.as_str(), "refused 20\n");
+        Ok(())
+    }
+}
