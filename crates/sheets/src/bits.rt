@@ -1,5 +1,5 @@
 // What the bits of a packed byte say.
-ghost use Rattle.std.specs.Prelude.{◌≡◌, ◌*◌, ◌<◌, ◌≤◌, unsigned_abs};
+ghost use Rattle.std.specs.Prelude.{◌≡◌, ◌*◌, ◌<◌};
 ghost use Rattle.sheets.specs.Packing.{bit, nibble, plane_term, signed};
 
 // A code in two's complement, whose highest bit counts for `half`.
@@ -30,12 +30,10 @@ pub(crate) fn bit(byte: u8, index: usize) -> u8
     (byte >> index) % 2
 }
 
-// What a bit counts for in a plane.
-pub(crate) fn plane_term(bit: u8, plane: usize) -> i16
-    requires { plane < 8 }
-    ensures value { result ≡ plane_term bit plane }
-    ensures small { unsigned_abs result ≤ 128 }
+// What a bit counts for in the lowest plane: 1, or -1 where it is 0.
+pub(crate) fn sign(bit: u8) -> i16
+    requires { bit < 2 }
+    ensures { result ≡ plane_term bit 0 }
 {
-    let power: i16 = 1 << plane;
-    if bit == 0 { -power } else { power }
+    2 * i16::from(bit) - 1
 }

@@ -6,7 +6,7 @@ ghost use Rattle.sheets.specs.Making.{planes_check};
 ghost use Rattle.sheets.specs.Packing.{bit_at, plane_sum, plane_term};
 
 use crate::any::AnyPacking;
-use crate::bits::{bit, plane_term};
+use crate::bits::{bit, sign};
 use crate::code::SheetCode;
 use crate::packing::Packing;
 use refusals::Refusal;
@@ -51,23 +51,24 @@ impl Packing for BitPlanes {
     ghost few = { λ p. p.few };
 }
 
-// What the bits of a place count for, over all planes.
+// What the bits of a place count for, over all planes: from the highest down, each doubles what those above it came to,
+// and counts for 1 or -1 itself.
 fn plane_sum(bytes: &[u8], stride: usize, place: usize, planes: usize) -> i16
     requires few { planes ≤ 8 }
     requires whole { length bytes.now ≡ planes * stride }
     requires inside { place / 8 < stride }
     ensures { result ≡ plane_sum bytes.now stride place planes }
 {
-    (0..planes)
-        .map(|plane| plane_part(bytes, stride, place, plane))
-        .sum()
+    (0..planes).rev().fold(0, |sum, plane| {
+        2 * sum + plane_part(bytes, stride, place, plane)
+    })
 }
 
-// What the bit of a place in one plane counts for.
+// What the bit of a place in one plane counts for, were that the lowest.
 fn plane_part(bytes: &[u8], stride: usize, place: usize, plane: usize) -> i16
     requires few { plane < 8 }
     requires inside { plane * stride + place / 8 < length bytes.now }
-    ensures { result ≡ plane_term (bit_at bytes.now stride place plane) plane }
+    ensures { result ≡ plane_term (bit_at bytes.now stride place plane) 0 }
 {
-    plane_term(bit(bytes[plane * stride + place / 8], place % 8), plane)
+    sign(bit(bytes[plane * stride + place / 8], place % 8))
 }
