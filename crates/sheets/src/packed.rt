@@ -41,6 +41,7 @@ impl<'a, P: Packing> Clone for Packed<'a, P> {
 impl<'a, P: Packing> Copy for Packed<'a, P> {}
 
 impl<'a, P: Packing> Packed<'a, P> {
+    ghost use Rattle.sheets.specs.Any.{any_code};
     ghost use Rattle.sheets.specs.Meanings.{packed_meaning};
 
     // Refused where the bytes are not as many as the places take.
@@ -66,7 +67,10 @@ impl<'a, P: Packing> Packed<'a, P> {
 
     // The same sheet, as one whose packing is known only when the program runs.
     pub fn into_any(self) -> AnySheet<'a>
-        ensures { packed_meaning result ≡ packed_meaning self.entry }
+        ensures code { any_code result.packing ≡ P.code self.entry.packing }
+        ensures extent { result.extent ≡ self.entry.extent }
+        ensures bytes { result.bytes ≡ self.entry.bytes }
+        ensures meaning { packed_meaning result ≡ packed_meaning self.entry }
     {
         let Packed {
             packing,
@@ -84,6 +88,8 @@ impl<'a, P: Packing> Packed<'a, P> {
     fn as_packed<Q: Packing>(self, packing: Q) -> Packed<'a, Q>
         requires { Q.code packing ≡ P.code self.packing }
         ensures packing { result.packing ≡ packing }
+        ensures extent { result.extent ≡ self.entry.extent }
+        ensures bytes { result.bytes ≡ self.entry.bytes }
         ensures meaning { packed_meaning result ≡ packed_meaning self.entry }
     {
         let Packed {
@@ -101,12 +107,14 @@ impl<'a, P: Packing> Packed<'a, P> {
 
 impl<'a> Packed<'a, AnyPacking> {
     ghost use Rattle.sheets.specs.Any.{any_code};
-    ghost use Rattle.sheets.specs.Known.{known_code, known_meaning};
+    ghost use Rattle.sheets.specs.Known.{known_bytes, known_code, known_extent, known_meaning};
     ghost use Rattle.sheets.specs.Meanings.{any_meaning};
 
     // The same sheet, as one of the packing that it has.
     pub fn known(self) -> KnownSheet<'a>
         ensures code { known_code result ≡ any_code self.entry.packing }
+        ensures extent { known_extent result ≡ self.entry.extent }
+        ensures bytes { known_bytes result ≡ self.entry.bytes }
         ensures meaning { known_meaning result ≡ any_meaning self.entry }
     {
         match self.packing {
